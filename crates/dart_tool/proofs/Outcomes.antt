@@ -1,0 +1,74 @@
+-- A text spells one program, so words and files have one outcome, and never none.
+use Rattle.std.specs.Prelude.{IfSome}
+use Rattle.std.proofs.Common.{◌≡◌, ◌∙◌, sym, ap, refl, subst, ℕ, List, Option, None, Some, inl, inr}
+use Rattle.dart_edge.specs.Files.{Files, file_of}
+use Rattle.dart_edge.specs.Writes.{IsFront, WroteFront}
+use Rattle.dart_tool.specs.declared.outcome.Outcome.{Outcome}
+use Rattle.dart_tool.specs.declared.program.Statement.{Statement}
+use Rattle.dart_tool.specs.declared.status.Status.{Status}
+use Rattle.dart_tool.specs.declared.status.Status.TheVariants.{Done, Usage, Refused, Limit, ReadFault, WriteFault, Memory}
+use Rattle.dart_tool.specs.declared.status.Refusal.TheVariants.{NotFound, NotBuilt}
+use Rattle.dart_tool.specs.Words.{Command, Command.run_file, reading}
+use Rattle.dart_tool.specs.Program.{IsSource}
+use Rattle.dart_tool.specs.Model.{run_of}
+use Rattle.dart_tool.specs.Outcome.{FileGives, CommandGives, IsOutcome, usage_outcome, transcript, refused}
+use Rattle.dart_tool.specs.Tool.{Answers, CutShort, Delivers}
+use Rattle.dart_tool.proofs.Sources.{one_program}
+
+pub one_file_outcome : (name : List ℕ) (content : Option (List ℕ)) (a b : Outcome) → FileGives name content a → FileGives name content b → a ≡ b
+one_file_outcome name None a b x y = x ∙ sym y
+one_file_outcome name (Some text) a b (inl (p, source, e)) (inl (q, other, f)) = e ∙ ap (λ s. transcript (run_of s)) (one_program text p q source other) ∙ sym f
+one_file_outcome name (Some text) a b (inl (p, source, e)) (inr (none, f)) = absurd (none p source)
+one_file_outcome name (Some text) a b (inr (none, e)) (inl (q, other, f)) = absurd (none q other)
+one_file_outcome name (Some text) a b (inr (none, e)) (inr (nothing, f)) = e ∙ sym f
+
+one_command_outcome : (command : Option Command) (files : Files) (a b : Outcome) → CommandGives command files a → CommandGives command files b → a ≡ b
+one_command_outcome None files a b x y = x ∙ sym y
+one_command_outcome (Some (run_file name)) files a b x y = one_file_outcome name (file_of files name) a b x y
+
+-- the words and the files have at most one outcome
+pub one_outcome : (words : List (List ℕ)) (files : Files) (a b : Outcome) → IsOutcome words files a → IsOutcome words files b → a ≡ b
+one_outcome words files a b x y = one_command_outcome (reading words) files a b x y
+
+some_file_outcome : (name : List ℕ) (content : Option (List ℕ)) → ((out : Outcome) → FileGives name content out → ⊥) → ⊥
+some_file_outcome name None none = none (refused NotFound name) refl
+some_file_outcome name (Some text) none =
+    let no_program : (statements : List Statement) → IsSource text statements → ⊥ = λ statements source. none (transcript (run_of statements)) (inl (statements, source, refl)) in
+    none (refused NotBuilt name) (inr (no_program, refl))
+
+some_command_outcome : (command : Option Command) (files : Files) → ((out : Outcome) → CommandGives command files out → ⊥) → ⊥
+some_command_outcome None files none = none usage_outcome refl
+some_command_outcome (Some (run_file name)) files none = some_file_outcome name (file_of files name) none
+
+-- the words and the files aren't without an outcome
+pub some_outcome : (words : List (List ℕ)) (files : Files) → ((out : Outcome) → IsOutcome words files out → ⊥) → ⊥
+some_outcome words files none = some_command_outcome (reading words) files none
+
+front_written : (IsDue : Outcome → Type 0) (due : Outcome) (before after : Option (List ℕ)) → ((out : Outcome) → IsDue out → out ≡ due) → WroteFront before after due.bytes → CutShort IsDue before after
+front_written IsDue due before after one (front, is, e) = (front, e, λ out is_due. subst (λ (o : Outcome). IsFront front o.bytes) (sym (one out is_due)) is)
+
+-- delivering the one outcome that is due answers it
+pub answers_from_delivered : (IsDue : Outcome → Type 0) (due : Outcome) (status : Status) (before after : Option (List ℕ)) → IsDue due → ((out : Outcome) → IsDue out → out ≡ due) → Delivers due status before after → Answers IsDue status before after
+answers_from_delivered IsDue due ReadFault before after is one h = absurd h
+answers_from_delivered IsDue due WriteFault before after is one h = front_written IsDue due before after one h
+answers_from_delivered IsDue due Memory before after is one h = front_written IsDue due before after one h
+answers_from_delivered IsDue due Done before after is one h = (due, is, h.0, h.1)
+answers_from_delivered IsDue due Usage before after is one h = (due, is, h.0, h.1)
+answers_from_delivered IsDue due Refused before after is one h = (due, is, h.0, h.1)
+answers_from_delivered IsDue due Limit before after is one h = (due, is, h.0, h.1)
+
+-- a read, and then the delivery of the outcome of what was read
+pub read_answers : (told : Option Files) (name : List ℕ) (content : Option (List ℕ)) (due : Outcome) (status : Status) (before after : Option (List ℕ)) → IfSome told (λ files. content ≡ file_of files name) → FileGives name content due → Delivers due status before after → IfSome told (λ files. Answers (FileGives name (file_of files name)) status before after)
+read_answers None name content due status before after is gives h = tt
+read_answers (Some files) name content due status before after is gives h =
+    subst (λ (c : Option (List ℕ)). Answers (FileGives name c) status before after) is (answers_from_delivered (FileGives name content) due status before after gives (λ out other. one_file_outcome name content out due other gives) h)
+
+-- what the words ask is what their command asks
+pub words_answer : (told : Option Files) (words : List (List ℕ)) (command : Option Command) (status : Status) (before after : Option (List ℕ)) → reading words ≡ command → IfSome told (λ files. Answers (CommandGives command files) status before after) → IfSome told (λ files. Answers (IsOutcome words files) status before after)
+words_answer None words command status before after e h = tt
+words_answer (Some files) words command status before after e h = subst (λ (c : Option Command). Answers (CommandGives c files) status before after) (sym e) h
+
+-- words that are no command
+pub usage_answers : (told : Option Files) (status : Status) (before after : Option (List ℕ)) → Delivers usage_outcome status before after → IfSome told (λ files. Answers (CommandGives None files) status before after)
+usage_answers None status before after h = tt
+usage_answers (Some files) status before after h = answers_from_delivered (CommandGives None files) usage_outcome status before after refl (λ out due. due) h

@@ -1,0 +1,11 @@
+-- What the rest of a program prints and how it ends, after some variables.
+use Rattle.std.proofs.Common.{List, ℕ}
+use Rattle.dart_tool.specs.declared.program.Statement.{Statement}
+use Rattle.dart_tool.specs.declared.evaluate.Ending.{Ending}
+use Rattle.dart_tool.specs.Model.{Variables, run_from, printed_bytes}
+
+abbrev pub rest_bytes : Variables → List Statement → List ℕ
+rest_bytes variables statements = printed_bytes (run_from variables statements)
+
+abbrev pub rest_ending : Variables → List Statement → Ending
+rest_ending variables statements = (run_from variables statements).ending

@@ -1,0 +1,11 @@
+pub mod Fronts
+pub mod Laws
+pub mod Model
+pub mod Names
+pub mod Outcome
+pub mod Program
+pub mod Scope
+pub mod Status
+pub mod Token
+pub mod Tool
+pub mod Words

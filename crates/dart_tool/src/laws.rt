@@ -1,0 +1,61 @@
+// What follows from the definitions of an outcome, and from the contract of the whole tool.
+ghost use Rattle.std.specs.Prelude.{◌≡◌, ◌↔◌, ℕ, List, [], Some, map};
+ghost use Rattle.std.specs.String.{string_bytes};
+ghost use Rattle.dart_edge.specs.Files.{Files, file_of};
+ghost use Rattle.dart_edge.specs.Memory.{safe_files, safe_written};
+ghost use Rattle.dart_tool.specs.declared.outcome.Outcome.{Outcome};
+ghost use Rattle.dart_tool.specs.declared.program.Statement.{Statement};
+ghost use Rattle.dart_tool.specs.Laws.{AnswersSafely, DifferInWordsAlone};
+ghost use Rattle.dart_tool.specs.Model.{run_of};
+ghost use Rattle.dart_tool.specs.Names.{Fits};
+ghost use Rattle.dart_tool.specs.Outcome.{FileGives, IsOutcome};
+ghost use Rattle.dart_tool.specs.Program.{IsSource};
+ghost use Rattle.dart_tool.specs.Words.{Command.run_file, reading};
+
+use crate::status::Status;
+use crate::tool::dart;
+use dart_edge::gate::Gate;
+use dart_edge::memory::{NoFaultSink, NoFaultSources};
+use std::alloc::Global;
+use std::marker::Sync;
+use std::sync::Wait;
+use std::thread::Threads;
+
+/// Words and files have at most one outcome.
+pub fn one_outcome()
+    ensures { (words : List (List ℕ)) (files : Files) (a b : Outcome) →
+        IsOutcome words files a → IsOutcome words files b → a ≡ b }
+{}
+
+/// Words and files are never without an outcome.
+pub fn never_without_outcome()
+    ensures { (words : List (List ℕ)) (files : Files) → ((out : Outcome) → IsOutcome words files out → ⊥) → ⊥ }
+{}
+
+/// The word before a declared name is never read: programs that differ in these words alone print the same, and
+/// their files have one outcome.
+pub fn words_are_not_read()
+    ensures run { (p q : List Statement) → DifferInWordsAlone p q → run_of p ≡ run_of q }
+    ensures fits { (p q : List Statement) → DifferInWordsAlone p q → Fits [] p → Fits [] q }
+    ensures file { (name t u : List ℕ) (p q : List Statement) (out : Outcome) →
+        IsSource t p → IsSource u q → DifferInWordsAlone p q →
+        FileGives name (Some t) out ↔ FileGives name (Some u) out }
+    ensures outcome { (words : List (List ℕ)) (files others : Files) (name t u : List ℕ) (p q : List Statement) (out : Outcome) →
+        reading words ≡ Some (run_file name) → file_of files name ≡ Some t → file_of others name ≡ Some u →
+        IsSource t p → IsSource u q → DifferInWordsAlone p q →
+        IsOutcome words files out ↔ IsOutcome words others out }
+{}
+
+/// The tool over files and output in memory, which never fail: it answers the outcome, or want of memory.
+pub fn dart_in_memory<R: Threads + Wait + Sync, G: Gate>(
+    rt: &R,
+    alloc: Global,
+    words: &[String],
+    sources: &mut NoFaultSources,
+    sink: &mut NoFaultSink,
+    gate: &G,
+) -> Status
+    ensures { AnswersSafely (map string_bytes words.now) (safe_files sources.old) result (safe_written sink.old) (safe_written sink.new) }
+{
+    dart(rt, alloc, words, sources, sink, gate)
+}

@@ -1,0 +1,82 @@
+// What a file gives: the bytes that are written, and the status.
+ghost use Rattle.std.specs.Prelude.{◌≡◌, ◌++◌, false, Some, IfOk};
+ghost use Rattle.dart_tool.specs.Model.{run_of};
+ghost use Rattle.dart_tool.specs.Outcome.{FileGives, refused, shown, transcript, is_cut_short};
+
+use crate::evaluate::{Ending, run};
+use crate::program::Statement;
+use crate::source::source_program;
+use crate::status::{Refusal, Status};
+use dart_base::bytes::Bytes;
+use std::alloc::{AllocError, Global};
+
+/// All that a run of the tool writes, and how it ends.
+#[derive(Drop)]
+pub struct Outcome {
+    pub status: Status,
+    pub bytes: Bytes,
+}
+
+// A file's name as it is written.
+fn push_shown(line: &mut Bytes, name: &[u8]) -> Result<(), AllocError>
+    ensures { IfOk result (λ _. line.new ≡ line.old ++ shown name.now) }
+{
+    for byte in name {
+        line.push(if *byte < b' ' { b' ' } else { *byte })?;
+    }
+    Ok(())
+}
+
+/// The refusal of a file.
+pub fn refused(alloc: Global, why: Refusal, name: &[u8]) -> Result<Outcome, AllocError>
+    ensures { IfOk result (λ out. out ≡ refused why name.now) }
+{
+    let mut bytes = Bytes::from_slice(alloc, b"** refused ")?;
+    bytes.append(why.text())?;
+    bytes.push(b' ')?;
+    push_shown(&mut bytes, name)?;
+    bytes.push(b'\n')?;
+    Ok(Outcome {
+        status: Status::Refused,
+        bytes,
+    })
+}
+
+/// What a program prints, and then the line of an abnormal ending.
+pub fn transcript(alloc: Global, statements: &[Statement]) -> Result<Outcome, AllocError>
+    ensures { IfOk result (λ out. out ≡ transcript (run_of statements.now)) }
+{
+    let printed = run(alloc, statements)?;
+    let mut bytes = printed.bytes;
+    match printed.ending {
+        Ending::Returned => Ok(Outcome {
+            status: Status::Done,
+            bytes,
+        }),
+        Ending::IntegerLimit => {
+            bytes.append(b"** limit IntegerLimit\n")?;
+            Ok(Outcome {
+                status: Status::Limit,
+                bytes,
+            })
+        }
+    }
+}
+
+/// What `run` gives for a file, or for the name of none.
+pub fn file_outcome(
+    alloc: Global,
+    name: &[u8],
+    content: Option<Bytes>,
+) -> Result<Outcome, AllocError>
+    ensures gives { IfOk result (λ out. FileGives name.now content out) }
+    ensures ended { IfOk result (λ out. is_cut_short out.status ≡ false) }
+{
+    let Some(text) = content else {
+        return refused(alloc, Refusal::NotFound, name);
+    };
+    match source_program(alloc, text.as_slice())? {
+        Some(statements) => transcript(alloc, &statements),
+        None => refused(alloc, Refusal::NotBuilt, name),
+    }
+}

@@ -1,0 +1,218 @@
+// Whole runs over files and output in memory.
+use crate::laws::dart_in_memory;
+use crate::status::Status;
+use crate::tool::dart;
+use dart_base::bytes::Bytes;
+use dart_edge::gate::OpenGate;
+use dart_edge::memory::{MemSink, MemSources, NoFaultSink, NoFaultSources};
+use std::alloc::{AllocError, Global};
+use std::marker::Sync;
+use std::process::Abort;
+use std::sync::Wait;
+use std::thread::Threads;
+
+const ONE_SUM: &str = "main() { print(1 + 2); }";
+
+const USAGE: &str =
+    "usage: dart run|trace [--checked] [--steps N] [--units N] [--workers N] FILE | erase FILE | analyse FILE | soak N\n";
+
+const NOT_BUILT: &str = "** refused NotBuilt a.dart\n";
+
+const AT_LIMIT: &str = "** limit IntegerLimit\n";
+
+fn words(alloc: Global, texts: &[&str]) -> Result<Vec<String>, AllocError> {
+    let mut words = Vec::new(alloc);
+    for text in texts {
+        words.push(String::from_str(alloc, text)?)?;
+    }
+    Ok(words)
+}
+
+// The text as the only file.
+fn files(alloc: Global, text: &[u8]) -> Result<Vec<(Bytes, Bytes)>, AllocError> {
+    let mut files = Vec::new(alloc);
+    let name = Bytes::from_slice(alloc, b"a.dart")?;
+    files.push((name, Bytes::from_slice(alloc, text)?))?;
+    Ok(files)
+}
+
+#[test]
+fn programs(rt: HostRuntime) -> Result<(), AllocError> {
+    let alloc = rt.alloc();
+    let words = words(alloc, &["run", "a.dart"])?;
+    for (text, want, status) in [
+        (ONE_SUM, "3\n", Status::Done),
+        ("main() {}", "", Status::Done),
+        (
+            "main ( ){\nprint(007);print('a b') ;\n}\n",
+            "7\na b\n",
+            Status::Done,
+        ),
+        (
+            "main() { int a = 2; var b = a + 40; print('x'); print(b + a); }",
+            "x\n44\n",
+            Status::Done,
+        ),
+        (
+            "main() { String a = 2; var b = a + 40; print('x'); print(b + a); }",
+            "x\n44\n",
+            Status::Done,
+        ),
+        (
+            "main() { int a = 'x'; dynamic b = a; print(b); }",
+            "x\n",
+            Status::Done,
+        ),
+        (
+            "main() { var printer = 1; print(printer); }",
+            "1\n",
+            Status::Done,
+        ),
+        (
+            "main() { print(a); var a = 1; }",
+            NOT_BUILT,
+            Status::Refused,
+        ),
+        ("main() { var a = a; }", NOT_BUILT, Status::Refused),
+        (
+            "main() { var a = 1; int a = 2; print(a); }",
+            NOT_BUILT,
+            Status::Refused,
+        ),
+        ("main() { var print = 1; }", NOT_BUILT, Status::Refused),
+        ("main() { print('a' + 1); }", NOT_BUILT, Status::Refused),
+        ("main() { print(1 +); }", NOT_BUILT, Status::Refused),
+        (
+            "main() { print(170141183460469231731687303715884105727); }",
+            "170141183460469231731687303715884105727\n",
+            Status::Done,
+        ),
+        (
+            "main() { print(170141183460469231731687303715884105728); }",
+            NOT_BUILT,
+            Status::Refused,
+        ),
+        (
+            "main() { print(170141183460469231731687303715884105727 + 1); }",
+            AT_LIMIT,
+            Status::Limit,
+        ),
+        (
+            "main() { var a = 170141183460469231731687303715884105727; print(5); print(a + a + a); print(6); }",
+            "5\n** limit IntegerLimit\n",
+            Status::Limit,
+        ),
+    ] {
+        let mut sources = NoFaultSources::new(alloc, files(alloc, text.as_bytes())?);
+        let mut sink = NoFaultSink::new(alloc);
+        let got = dart_in_memory(&rt, alloc, &words, &mut sources, &mut sink, &OpenGate);
+        assert_eq!(rt; got, status, "{text}");
+        assert!(rt; sink.written() == want.as_bytes(), "{text}");
+    }
+    Ok(())
+}
+
+#[test]
+fn lengths(rt: HostRuntime) -> Result<(), AllocError> {
+    let alloc = rt.alloc();
+    let words = words(alloc, &["run", "a.dart"])?;
+    for (length, want, status) in [
+        (10_000, "3\n", Status::Done),
+        (10_001, NOT_BUILT, Status::Refused),
+    ] {
+        let mut text = Vec::from_slice(alloc, ONE_SUM.as_bytes())?;
+        text.resize(length, b'\n')?;
+        let mut sources = NoFaultSources::new(alloc, files(alloc, &text)?);
+        let mut sink = NoFaultSink::new(alloc);
+        let got = dart_in_memory(&rt, alloc, &words, &mut sources, &mut sink, &OpenGate);
+        assert_eq!(rt; got, status);
+        assert!(rt; sink.written() == want.as_bytes());
+    }
+    Ok(())
+}
+
+#[test]
+fn words_without_a_program(rt: HostRuntime) -> Result<(), AllocError> {
+    let alloc = rt.alloc();
+    for (texts, want, status) in [
+        (
+            ["run", "b.dart"].as_slice(),
+            "** refused NotFound b.dart\n",
+            Status::Refused,
+        ),
+        (
+            ["run", "a\n\x1f b"].as_slice(),
+            "** refused NotFound a   b\n",
+            Status::Refused,
+        ),
+        (["run"].as_slice(), USAGE, Status::Usage),
+        ([].as_slice(), USAGE, Status::Usage),
+        (["run", ""].as_slice(), USAGE, Status::Usage),
+        (["run", "-a.dart"].as_slice(), USAGE, Status::Usage),
+        (["run", "a.dart", "a.dart"].as_slice(), USAGE, Status::Usage),
+        (["erase", "a.dart"].as_slice(), USAGE, Status::Usage),
+    ] {
+        let words = words(alloc, texts)?;
+        let mut sources = NoFaultSources::new(alloc, files(alloc, ONE_SUM.as_bytes())?);
+        let mut sink = NoFaultSink::new(alloc);
+        let got = dart_in_memory(&rt, alloc, &words, &mut sources, &mut sink, &OpenGate);
+        assert_eq!(rt; got, status);
+        assert!(rt; sink.written() == want.as_bytes());
+    }
+    Ok(())
+}
+
+#[test]
+fn faults(rt: HostRuntime) -> Result<(), AllocError> {
+    let alloc = rt.alloc();
+    let words = words(alloc, &["run", "a.dart"])?;
+    for (reads, writes, want, status) in [
+        ([].as_slice(), [1].as_slice(), "3", Status::WriteFault),
+        ([].as_slice(), [0].as_slice(), "", Status::WriteFault),
+        ([0].as_slice(), [].as_slice(), "", Status::ReadFault),
+        ([1].as_slice(), [2].as_slice(), "3\n", Status::Done),
+    ] {
+        let reads = Vec::from_slice(alloc, reads)?;
+        let mut sources = MemSources::new(alloc, files(alloc, ONE_SUM.as_bytes())?, reads);
+        let mut sink = MemSink::new(alloc, 1, Vec::from_slice(alloc, writes)?);
+        let got = dart(&rt, alloc, &words, &mut sources, &mut sink, &OpenGate);
+        assert_eq!(rt; got, status);
+        assert!(rt; sink.written() == want.as_bytes());
+    }
+    Ok(())
+}
+
+const TEN_STATEMENTS: &str =
+    "main() { var a = 1; int b = a + 2; String c = 'text'; print(a); print(b); print(c); dynamic d = a + b + 4; print(d); print('last'); print(d + d); }";
+
+// Runs the text, and accepts its outcome, or want of memory after a front of it.
+fn run_in_little_memory<R: Abort + Threads + Wait + Sync>(
+    rt: &R,
+    alloc: Global,
+    text: &str,
+    want: &str,
+) -> Result<(), AllocError> {
+    let words = words(alloc, &["run", "a.dart"])?;
+    let files = files(alloc, text.as_bytes())?;
+    let mut sources = MemSources::new(alloc, files, Vec::new(alloc));
+    let mut sink = MemSink::new(alloc, 1, Vec::new(alloc));
+    let got = dart(rt, alloc, &words, &mut sources, &mut sink, &OpenGate);
+    if got == Status::Memory {
+        assert!(rt; want.as_bytes().starts_with(sink.written()));
+    } else {
+        assert_eq!(rt; got, Status::Done);
+        assert!(rt; sink.written() == want.as_bytes());
+    }
+    Ok(())
+}
+
+#[test]
+fn want_of_memory(rt: HostRuntime) {
+    for (text, want) in [
+        (ONE_SUM, "3\n"),
+        (TEN_STATEMENTS, "1\n3\ntext\n8\nlast\n16\n"),
+    ] {
+        // An allocation that fails before the call leaves nothing to see.
+        let _ = run_in_little_memory(&rt, rt.alloc(), text, want);
+    }
+}
