@@ -1,0 +1,2 @@
+// one
+main() { print(1); }

@@ -1,0 +1,1 @@
+main() { var a = 1; int a = 2; print(a); }

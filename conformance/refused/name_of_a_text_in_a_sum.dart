@@ -1,0 +1,1 @@
+main() { var a = 'x'; var b = a; print(1 + b); }

@@ -1,0 +1,1 @@
+main() { print(a); var a = 1; }

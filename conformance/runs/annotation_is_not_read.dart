@@ -1,0 +1,1 @@
+main() { String a = 2; int b = 'y'; print(a + 40); print(b); }

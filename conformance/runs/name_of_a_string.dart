@@ -1,0 +1,1 @@
+main() { var a = 'x'; dynamic b = a; int c = b; print(c); print(a); }

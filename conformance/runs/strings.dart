@@ -1,0 +1,1 @@
+main() { print('a  b'); print(''); print('!"#%&()*+,-./:;<=>?@[]^_`{|}~ main() print +'); }
