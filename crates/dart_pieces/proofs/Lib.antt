@@ -1,0 +1,11 @@
+pub mod CommentLaws
+pub mod CutLaws
+pub mod Found
+pub mod MarkLaws
+pub mod NameLaws
+pub mod NumberLaws
+pub mod PieceLaws
+pub mod QuoteLaws
+pub mod RunLaws
+pub mod StopLaws
+pub mod StringLaws

@@ -1,0 +1,3 @@
+pub mod Lookup
+pub mod Sign
+pub mod Word
