@@ -1,11 +1,8 @@
-pub mod Lexemes
 pub mod Outcomes
 pub mod Printing
 pub mod Rests
-pub mod Runs
-pub mod Scanning
 pub mod Sources
-pub mod Spelling
+pub mod Terminals
 pub mod Unread
 pub mod Values
 pub mod Variables

@@ -1,5 +1,5 @@
 -- The word before a declared name isn't read.
-use Rattle.std.proofs.Common.{◌≡◌, ◌∙◌, sym, ap, refl, subst, ℕ, List, [], ◌∷◌, ◌++◌, map, Some, inl}
+use Rattle.std.proofs.Common.{◌≡◌, ◌∙◌, sym, ap, refl, subst, ℕ, List, [], ◌∷◌, ◌++◌, map, Some, inl, inr}
 use Rattle.std.specs.Option.{option_map_or}
 use Rattle.dart_edge.specs.Files.{Files, file_of}
 use Rattle.dart_tool.specs.declared.outcome.Outcome.{Outcome}
@@ -37,8 +37,8 @@ fits_unread p q e h = fits_with [] q (subst (Fits []) e (fits_without [] p h))
 
 pub file_unread : (name t u : List ℕ) (p q : List Statement) (out : Outcome) → IsSource t p → IsSource u q → DifferInWordsAlone p q → FileGives name (Some t) out → FileGives name (Some u) out
 file_unread name t u p q out source other e gives =
-    let due : out ≡ transcript (run_of p) = one_file_outcome name (Some t) out (transcript (run_of p)) gives (inl (p, source, refl)) in
-    inl (q, other, due ∙ ap transcript (run_unread p q e))
+    let due : out ≡ transcript (run_of p) = one_file_outcome name (Some t) out (transcript (run_of p)) gives (inr (inl (p, source, refl))) in
+    inr (inl (q, other, due ∙ ap transcript (run_unread p q e)))
 
 pub outcome_unread : (words : List (List ℕ)) (files others : Files) (name t u : List ℕ) (p q : List Statement) (out : Outcome) → reading words ≡ Some (run_file name) → file_of files name ≡ Some t → file_of others name ≡ Some u → IsSource t p → IsSource u q → DifferInWordsAlone p q → IsOutcome words files out → IsOutcome words others out
 outcome_unread words files others name t u p q out is here there source other e due =

@@ -6,6 +6,6 @@ pub mod Outcome
 pub mod Program
 pub mod Scope
 pub mod Status
-pub mod Token
+pub mod Terminal
 pub mod Tool
 pub mod Words

@@ -1,5 +1,5 @@
 -- Which names a program of the first subset may declare and use, and where.
-use Rattle.std.specs.Prelude.{◌≡◌, ℕ, List, [], ◌∷◌, if◌then◌else◌, Option, None, Some, All, codes, Bool, true, false}
+use Rattle.std.specs.Prelude.{◌≡◌, ℕ, List, [], ◌∷◌, if◌then◌else◌, Option, None, Some, All, codes, Bool, false}
 use Rattle.std.specs.Str.{bytes_eq}
 use Rattle.std.specs.List.{list_any}
 use Rattle.dart_tool.specs.declared.program.Operand.{Operand}
@@ -31,14 +31,6 @@ abbrev pub SumHas : Kinds → Operand → List Operand → Kind → Type 0
 SumHas kinds first [] kind = operand_kind kinds first ≡ Some kind
 SumHas kinds first (o ∷ more) kind = (kind ≡ numeric) × All (λ p. operand_kind kinds p ≡ Some numeric) (first ∷ o ∷ more)
 
--- the reserved words
-abbrev pub reserved_words : List (List ℕ)
-reserved_words = codes "assert" ∷ codes "break" ∷ codes "case" ∷ codes "catch" ∷ codes "class" ∷ codes "const" ∷ codes "continue" ∷ codes "default" ∷ codes "do" ∷ codes "else" ∷ codes "enum" ∷ codes "extends" ∷ codes "false" ∷ codes "final" ∷ codes "finally" ∷ codes "for" ∷ codes "if" ∷ codes "in" ∷ codes "is" ∷ codes "new" ∷ codes "null" ∷ codes "rethrow" ∷ codes "return" ∷ codes "super" ∷ codes "switch" ∷ codes "this" ∷ codes "throw" ∷ codes "true" ∷ codes "try" ∷ codes "var" ∷ codes "void" ∷ codes "while" ∷ codes "with" ∷ []
-
--- the built-in identifiers
-abbrev pub built_in_identifiers : List (List ℕ)
-built_in_identifiers = codes "abstract" ∷ codes "as" ∷ codes "deferred" ∷ codes "dynamic" ∷ codes "export" ∷ codes "external" ∷ codes "factory" ∷ codes "get" ∷ codes "implements" ∷ codes "import" ∷ codes "library" ∷ codes "operator" ∷ codes "part" ∷ codes "set" ∷ codes "static" ∷ codes "typedef" ∷ []
-
 -- names that the subset itself uses
 abbrev pub used_names : List (List ℕ)
 used_names = codes "main" ∷ codes "print" ∷ codes "int" ∷ codes "String" ∷ []
@@ -46,9 +38,9 @@ used_names = codes "main" ∷ codes "print" ∷ codes "int" ∷ codes "String" �
 abbrev pub is_one_of : List (List ℕ) → List ℕ → Bool
 is_one_of words name = list_any (λ w. bytes_eq w name) words
 
--- a name that no variable of the subset may have
+-- a name that no variable of the subset may have; the words of the language are no names at all
 abbrev pub is_taken : List ℕ → Bool
-is_taken name = if is_one_of reserved_words name then true else if is_one_of built_in_identifiers name then true else is_one_of used_names name
+is_taken name = is_one_of used_names name
 
 -- each name may be declared, is declared once, and is used after its declaration alone
 abbrev pub Fits : Kinds → List Statement → Type 0

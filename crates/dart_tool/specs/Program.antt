@@ -1,8 +1,10 @@
--- The grammar of the first subset: the tokens of a program, and the texts that are its source.
-use Rattle.std.specs.Prelude.{◌≤◌, ℕ, List, [], ◌∷◌, ◌++◌, length, codes}
+-- The grammar of the first subset: the terminals of a program, and the texts that are its source.
+use Rattle.std.specs.Prelude.{◌≡◌, ◌≤◌, ℕ, List, [], ◌∷◌, ◌++◌, length, codes}
 use Rattle.std.specs.List.{flat_map}
-use Rattle.dart_tool.specs.declared.token.Token.{Token}
-use Rattle.dart_tool.specs.declared.token.Token.TheVariants as token
+use Rattle.dart_token.specs.declared.sign.Sign.TheVariants.{Plus, Assign, Semicolon, LeftParenthesis, RightParenthesis, LeftBrace, RightBrace}
+use Rattle.dart_token.specs.declared.word.Word.TheVariants as w
+use Rattle.dart_token.specs.declared.token.Token.{Token}
+use Rattle.dart_lex.specs.Faults.{Spells}
 use Rattle.dart_tool.specs.declared.program.DeclaredBy.{DeclaredBy}
 use Rattle.dart_tool.specs.declared.program.DeclaredBy.TheVariants.{Var, Int, Text, Dynamic}
 use Rattle.dart_tool.specs.declared.program.Operand.{Operand}
@@ -10,45 +12,49 @@ use Rattle.dart_tool.specs.declared.program.Operand.TheVariants.{Literal, Name, 
 use Rattle.dart_tool.specs.declared.program.Sum.{Sum}
 use Rattle.dart_tool.specs.declared.program.Statement.{Statement}
 use Rattle.dart_tool.specs.declared.program.Statement.TheVariants.{Declare, Print}
-use Rattle.dart_tool.specs.Token.{Spells}
+use Rattle.dart_tool.specs.Terminal.{Terminal, Terminal.a_word, Terminal.a_name, Terminal.a_number, Terminal.a_text, Terminal.a_sign, terminals}
 use Rattle.dart_tool.specs.Names.{Fits}
 
 -- digits | id | 'characters'
-abbrev pub operand_token : Operand → Token
-operand_token (Literal n) = token.Number n
-operand_token (Name name) = token.Word name
-operand_token (Quoted bytes) = token.Quoted bytes
+abbrev pub operand_terminal : Operand → Terminal
+operand_terminal (Literal n) = a_number n
+operand_terminal (Name name) = a_name name
+operand_terminal (Quoted bytes) = a_text bytes
 
 -- + Operand
-abbrev pub more_tokens : Operand → List Token
-more_tokens operand = token.Sign 43 ∷ operand_token operand ∷ []
+abbrev pub more_terminals : Operand → List Terminal
+more_terminals operand = a_sign Plus ∷ operand_terminal operand ∷ []
 
 -- Operand {+ Operand}
-abbrev pub sum_tokens : Sum → List Token
-sum_tokens sum = operand_token sum.first ∷ flat_map more_tokens sum.more
+abbrev pub sum_terminals : Sum → List Terminal
+sum_terminals sum = operand_terminal sum.first ∷ flat_map more_terminals sum.more
 
 -- var | int | String | dynamic
-abbrev pub declaring_word : DeclaredBy → List ℕ
-declaring_word Var = codes "var"
-declaring_word Int = codes "int"
-declaring_word Text = codes "String"
-declaring_word Dynamic = codes "dynamic"
+abbrev pub declaring_terminal : DeclaredBy → Terminal
+declaring_terminal Var = a_word w.Var
+declaring_terminal Int = a_name (codes "int")
+declaring_terminal Text = a_name (codes "String")
+declaring_terminal Dynamic = a_word w.Dynamic
 
 -- (var | int | String | dynamic) id = Expr ; | print ( Expr ) ;
-abbrev pub statement_tokens : Statement → List Token
-statement_tokens (Declare by name sum) = token.Word (declaring_word by) ∷ token.Word name ∷ token.Sign 61 ∷ (sum_tokens sum ++ token.Sign 59 ∷ [])
-statement_tokens (Print sum) = token.Word (codes "print") ∷ token.Sign 40 ∷ (sum_tokens sum ++ token.Sign 41 ∷ token.Sign 59 ∷ [])
+abbrev pub statement_terminals : Statement → List Terminal
+statement_terminals (Declare by name sum) = declaring_terminal by ∷ a_name name ∷ a_sign Assign ∷ (sum_terminals sum ++ a_sign Semicolon ∷ [])
+statement_terminals (Print sum) = a_name (codes "print") ∷ a_sign LeftParenthesis ∷ (sum_terminals sum ++ a_sign RightParenthesis ∷ a_sign Semicolon ∷ [])
 
 -- main ( ) {
-abbrev pub program_head : List Token
-program_head = token.Word (codes "main") ∷ token.Sign 40 ∷ token.Sign 41 ∷ token.Sign 123 ∷ []
+abbrev pub program_head : List Terminal
+program_head = a_name (codes "main") ∷ a_sign LeftParenthesis ∷ a_sign RightParenthesis ∷ a_sign LeftBrace ∷ []
 
 -- main ( ) { {Statement} }
-abbrev pub program_tokens : List Statement → List Token
-program_tokens statements = program_head ++ (flat_map statement_tokens statements ++ token.Sign 125 ∷ [])
+abbrev pub program_terminals : List Statement → List Terminal
+program_terminals statements = program_head ++ (flat_map statement_terminals statements ++ a_sign RightBrace ∷ [])
+
+-- The text spells tokens that stand for these terminals.
+abbrev pub SpellsTerminals : List ℕ → List Terminal → Type 0
+SpellsTerminals text list = (tokens : List Token) × Spells 0 text tokens × (terminals tokens ≡ list)
 
 -- a text of at most 10,000 bytes that spells the statements, whose names fit
 pub record IsSource (text : List ℕ) (statements : List Statement) : Type 0 where
   pub small : length text ≤ 10000
-  pub spelled : Spells text (program_tokens statements)
+  pub spelled : SpellsTerminals text (program_terminals statements)
   pub fits : Fits [] statements

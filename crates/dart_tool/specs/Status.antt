@@ -1,9 +1,11 @@
 -- The tables of statuses and refusals.
-use Rattle.std.specs.Prelude.{ℕ, List, codes}
+use Rattle.std.specs.Prelude.{ℕ, List, codes, Option, None, Some}
+use Rattle.dart_lex.specs.declared.lexer.LexFault.{LexFault}
+use Rattle.dart_lex.specs.declared.lexer.LexFault.TheVariants as e
 use Rattle.dart_tool.specs.declared.status.Status.{Status}
 use Rattle.dart_tool.specs.declared.status.Status.TheVariants.{Done, Usage, Refused, Limit, ReadFault, WriteFault, Memory}
 use Rattle.dart_tool.specs.declared.status.Refusal.{Refusal}
-use Rattle.dart_tool.specs.declared.status.Refusal.TheVariants.{NotFound, NotBuilt}
+use Rattle.dart_tool.specs.declared.status.Refusal.TheVariants.{NotFound, NotUtf8, BadToken, LeftOut, IntegerTooLarge, TooLarge, NotBuilt}
 
 -- the number with which the process ends
 abbrev pub status_number : Status → ℕ
@@ -18,4 +20,18 @@ status_number Memory = 9
 -- the kind as the line of a refusal shows it
 abbrev pub refusal_text : Refusal → List ℕ
 refusal_text NotFound = codes "NotFound"
+refusal_text TooLarge = codes "TooLarge"
+refusal_text (NotUtf8 offset) = codes "NotUtf8"
+refusal_text (BadToken place) = codes "BadToken"
+refusal_text (LeftOut place feature) = codes "LeftOut"
+refusal_text (IntegerTooLarge place) = codes "IntegerTooLarge"
 refusal_text NotBuilt = codes "NotBuilt"
+
+-- the refusal for a lexical reason; want of memory is none
+abbrev pub lexical_refusal : LexFault → Option Refusal
+lexical_refusal e.TooLarge = Some TooLarge
+lexical_refusal (e.NotUtf8 offset) = Some (NotUtf8 offset)
+lexical_refusal (e.BadToken place) = Some (BadToken place)
+lexical_refusal (e.LeftOut place feature) = Some (LeftOut place feature)
+lexical_refusal (e.IntegerTooLarge place) = Some (IntegerTooLarge place)
+lexical_refusal e.Memory = None

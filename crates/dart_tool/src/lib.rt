@@ -3,16 +3,15 @@
 
 mod evaluate;
 pub mod laws;
-mod lexer;
 mod outcome;
 mod parser;
 pub mod program;
 mod scope;
 mod source;
 pub mod status;
+mod terminal;
 #[cfg(test)]
 mod tests;
-mod token;
 pub mod tool;
 mod value;
 pub mod words;

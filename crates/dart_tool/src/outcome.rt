@@ -1,13 +1,15 @@
 // What a file gives: the bytes that are written, and the status.
 ghost use Rattle.std.specs.Prelude.{◌≡◌, ◌++◌, false, Some, IfOk};
+ghost use Rattle.std.specs.Fmt.{decimal};
 ghost use Rattle.dart_tool.specs.Model.{run_of};
-ghost use Rattle.dart_tool.specs.Outcome.{FileGives, refused, shown, transcript, is_cut_short};
+ghost use Rattle.dart_tool.specs.Outcome.{FileGives, refused, refusal_details, shown, shown_place, transcript, is_cut_short};
 
 use crate::evaluate::{Ending, run};
 use crate::program::Statement;
 use crate::source::source_program;
 use crate::status::{Refusal, Status};
 use dart_base::bytes::Bytes;
+use dart_base::place::Place;
 use std::alloc::{AllocError, Global};
 
 /// All that a run of the tool writes, and how it ends.
@@ -27,6 +29,50 @@ fn push_shown(line: &mut Bytes, name: &[u8]) -> Result<(), AllocError>
     Ok(())
 }
 
+fn push_decimal(alloc: Global, line: &mut Bytes, number: u64) -> Result<(), AllocError>
+    ensures { IfOk result (λ _. line.new ≡ line.old ++ decimal number) }
+{
+    line.append(number.to_string(alloc)?.as_bytes())
+}
+
+// A place in the file, as it is written.
+fn push_place(alloc: Global, line: &mut Bytes, place: Place, name: &[u8]) -> Result<(), AllocError>
+    ensures { IfOk result (λ _. line.new ≡ line.old ++ shown_place place name.now) }
+{
+    push_shown(line, name)?;
+    line.push(b':')?;
+    push_decimal(alloc, line, place.line as u64)?;
+    line.push(b':')?;
+    push_decimal(alloc, line, place.column as u64)
+}
+
+// What a refusal says after its kind.
+fn push_details(
+    alloc: Global,
+    line: &mut Bytes,
+    why: Refusal,
+    name: &[u8],
+) -> Result<(), AllocError>
+    ensures { IfOk result (λ _. line.new ≡ line.old ++ refusal_details why name.now) }
+{
+    match why {
+        Refusal::NotUtf8(offset) => {
+            push_shown(line, name)?;
+            line.push(b' ')?;
+            push_decimal(alloc, line, offset)
+        }
+        Refusal::BadToken(place) | Refusal::IntegerTooLarge(place) => {
+            push_place(alloc, line, place, name)
+        }
+        Refusal::LeftOut(place, feature) => {
+            push_place(alloc, line, place, name)?;
+            line.push(b' ')?;
+            line.append(feature.text())
+        }
+        Refusal::NotFound | Refusal::TooLarge | Refusal::NotBuilt => push_shown(line, name),
+    }
+}
+
 /// The refusal of a file.
 pub fn refused(alloc: Global, why: Refusal, name: &[u8]) -> Result<Outcome, AllocError>
     ensures { IfOk result (λ out. out ≡ refused why name.now) }
@@ -34,7 +80,7 @@ pub fn refused(alloc: Global, why: Refusal, name: &[u8]) -> Result<Outcome, Allo
     let mut bytes = Bytes::from_slice(alloc, b"** refused ")?;
     bytes.append(why.text())?;
     bytes.push(b' ')?;
-    push_shown(&mut bytes, name)?;
+    push_details(alloc, &mut bytes, why, name)?;
     bytes.push(b'\n')?;
     Ok(Outcome {
         status: Status::Refused,
@@ -75,8 +121,12 @@ pub fn file_outcome(
     let Some(text) = content else {
         return refused(alloc, Refusal::NotFound, name);
     };
-    match source_program(alloc, text.as_slice())? {
-        Some(statements) => transcript(alloc, &statements),
-        None => refused(alloc, Refusal::NotBuilt, name),
+    match source_program(alloc, text.as_slice()) {
+        Ok(Some(statements)) => transcript(alloc, &statements),
+        Ok(None) => refused(alloc, Refusal::NotBuilt, name),
+        Err(fault) => match Refusal::of_lexis(fault) {
+            Some(why) => refused(alloc, why, name),
+            None => Err(AllocError),
+        },
     }
 }

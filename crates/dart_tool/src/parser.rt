@@ -1,42 +1,50 @@
 // From the tokens of a program to its statements.
 ghost use Rattle.std.specs.Prelude.{◌≡◌, ◌<◌, ◌≤◌, ◌+◌, ℕ, List, [], ◌∷◌, ◌++◌, length, drop, true, false, codes, IfOk, IfSome, MatchOption};
-ghost use Rattle.dart_tool.specs.declared.token.Token.{Token};
 ghost use Rattle.dart_tool.specs.declared.program.DeclaredBy.{DeclaredBy};
 ghost use Rattle.dart_tool.specs.declared.program.Operand.{Operand};
 ghost use Rattle.dart_tool.specs.declared.program.Sum.{Sum};
 ghost use Rattle.dart_tool.specs.declared.program.Statement.{Statement};
-ghost use Rattle.dart_tool.specs.Program.{operand_token, more_tokens, sum_tokens, declaring_word, statement_tokens, program_tokens, program_head};
+ghost use Rattle.dart_tool.specs.Program.{operand_terminal, more_terminals, sum_terminals, declaring_terminal, statement_terminals, program_terminals, program_head};
 ghost use Rattle.dart_tool.specs.Fronts.{NoFront};
+ghost use Rattle.dart_tool.specs.Terminal.{Terminal as Seen, Terminal.a_word, Terminal.a_name, Terminal.a_sign, terminals};
 
 use crate::program::{DeclaredBy, Operand, Operands, Statement, Sum};
-use crate::token::Token;
+use crate::terminal::{Terminal, terminal_at};
 use dart_base::bytes::Bytes;
+use dart_token::sign::Sign;
+use dart_token::token::Token;
+use dart_token::word::Word;
 use std::alloc::{AllocError, Global};
 
-fn is_sign_at(tokens: &[Token], at: usize, sign: u8) -> bool
+fn is_sign_at(tokens: &[Token], at: usize, sign: Sign) -> bool
     ensures within { result ≡ true → at < length tokens.now }
-    ensures yes { result ≡ true → drop at tokens.now ≡ Token.Sign sign ∷ drop (at + 1) tokens.now }
-    ensures no { result ≡ false → (rest : List Token) → drop at tokens.now ≡ Token.Sign sign ∷ rest → ⊥ }
+    ensures yes { result ≡ true → drop at (terminals tokens.now) ≡ a_sign sign ∷ drop (at + 1) (terminals tokens.now) }
+    ensures no { result ≡ false → (rest : List Seen) → drop at (terminals tokens.now) ≡ a_sign sign ∷ rest → ⊥ }
 {
-    if at >= tokens.len() {
-        return false;
-    }
-    match &tokens[at] {
-        Token::Sign(found) => *found == sign,
+    match terminal_at(tokens, at) {
+        Some(Terminal::Sign(found)) => found == sign,
         _ => false,
     }
 }
 
-fn is_word_at(tokens: &[Token], at: usize, word: &[u8]) -> bool
+fn is_word_at(tokens: &[Token], at: usize, word: Word) -> bool
     ensures within { result ≡ true → at < length tokens.now }
-    ensures yes { result ≡ true → drop at tokens.now ≡ Token.Word word.now ∷ drop (at + 1) tokens.now }
-    ensures no { result ≡ false → (rest : List Token) → drop at tokens.now ≡ Token.Word word.now ∷ rest → ⊥ }
+    ensures yes { result ≡ true → drop at (terminals tokens.now) ≡ a_word word ∷ drop (at + 1) (terminals tokens.now) }
+    ensures no { result ≡ false → (rest : List Seen) → drop at (terminals tokens.now) ≡ a_word word ∷ rest → ⊥ }
 {
-    if at >= tokens.len() {
-        return false;
+    match terminal_at(tokens, at) {
+        Some(Terminal::Word(found)) => found == word,
+        _ => false,
     }
-    match &tokens[at] {
-        Token::Word(found) => found.as_slice() == word,
+}
+
+fn is_name_at(tokens: &[Token], at: usize, name: &[u8]) -> bool
+    ensures within { result ≡ true → at < length tokens.now }
+    ensures yes { result ≡ true → drop at (terminals tokens.now) ≡ a_name name.now ∷ drop (at + 1) (terminals tokens.now) }
+    ensures no { result ≡ false → (rest : List Seen) → drop at (terminals tokens.now) ≡ a_name name.now ∷ rest → ⊥ }
+{
+    match terminal_at(tokens, at) {
+        Some(Terminal::Name(found)) => found == name,
         _ => false,
     }
 }
@@ -45,14 +53,11 @@ fn is_word_at(tokens: &[Token], at: usize, word: &[u8]) -> bool
 fn name_at(alloc: Global, tokens: &[Token], at: usize) -> Result<Option<Bytes>, AllocError>
     ensures within { IfOk result (λ found. IfSome found (λ _. at < length tokens.now)) }
     ensures found { IfOk result (λ found. MatchOption found
-        (NoFront (λ name. Token.Word name ∷ []) (drop at tokens.now))
-        (λ name. drop at tokens.now ≡ Token.Word name ∷ drop (at + 1) tokens.now)) }
+        (NoFront (λ name. a_name name ∷ []) (drop at (terminals tokens.now)))
+        (λ name. drop at (terminals tokens.now) ≡ a_name name ∷ drop (at + 1) (terminals tokens.now))) }
 {
-    if at >= tokens.len() {
-        return Ok(None);
-    }
-    match &tokens[at] {
-        Token::Word(name) => Ok(Some(Bytes::from_slice(alloc, name.as_slice())?)),
+    match terminal_at(tokens, at) {
+        Some(Terminal::Name(name)) => Ok(Some(Bytes::from_slice(alloc, name)?)),
         _ => Ok(None),
     }
 }
@@ -60,20 +65,14 @@ fn name_at(alloc: Global, tokens: &[Token], at: usize) -> Result<Option<Bytes>, 
 fn operand_at(alloc: Global, tokens: &[Token], at: usize) -> Result<Option<Operand>, AllocError>
     ensures within { IfOk result (λ found. IfSome found (λ _. at < length tokens.now)) }
     ensures found { IfOk result (λ found. MatchOption found
-        (NoFront (λ operand. operand_token operand ∷ []) (drop at tokens.now))
-        (λ operand. drop at tokens.now ≡ operand_token operand ∷ drop (at + 1) tokens.now)) }
+        (NoFront (λ operand. operand_terminal operand ∷ []) (drop at (terminals tokens.now)))
+        (λ operand. drop at (terminals tokens.now) ≡ operand_terminal operand ∷ drop (at + 1) (terminals tokens.now))) }
 {
-    if at >= tokens.len() {
-        return Ok(None);
-    }
-    match &tokens[at] {
-        Token::Number(number) => Ok(Some(Operand::Literal(*number))),
-        Token::Word(name) => Ok(Some(Operand::Name(Bytes::from_slice(alloc, name.as_slice())?))),
-        Token::Quoted(text) => Ok(Some(Operand::Quoted(Bytes::from_slice(
-            alloc,
-            text.as_slice(),
-        )?))),
-        Token::Sign(_) => Ok(None),
+    match terminal_at(tokens, at) {
+        Some(Terminal::Number(number)) => Ok(Some(Operand::Literal(number))),
+        Some(Terminal::Name(name)) => Ok(Some(Operand::Name(Bytes::from_slice(alloc, name)?))),
+        Some(Terminal::Quoted(text)) => Ok(Some(Operand::Quoted(Bytes::from_slice(alloc, text)?))),
+        _ => Ok(None),
     }
 }
 
@@ -81,10 +80,10 @@ fn operand_at(alloc: Global, tokens: &[Token], at: usize) -> Result<Option<Opera
 fn more_at(alloc: Global, tokens: &[Token], at: usize) -> Result<Option<Operand>, AllocError>
     ensures within { IfOk result (λ found. IfSome found (λ _. at + 2 ≤ length tokens.now)) }
     ensures found { IfOk result (λ found. MatchOption found
-        (NoFront more_tokens (drop at tokens.now))
-        (λ operand. drop at tokens.now ≡ more_tokens operand ++ drop (at + 2) tokens.now)) }
+        (NoFront more_terminals (drop at (terminals tokens.now)))
+        (λ operand. drop at (terminals tokens.now) ≡ more_terminals operand ++ drop (at + 2) (terminals tokens.now))) }
 {
-    if is_sign_at(tokens, at, b'+') {
+    if is_sign_at(tokens, at, Sign::Plus) {
         operand_at(alloc, tokens, at + 1)
     } else {
         Ok(None)
@@ -95,10 +94,10 @@ fn more_at(alloc: Global, tokens: &[Token], at: usize) -> Result<Option<Operand>
 fn sum_at(alloc: Global, tokens: &[Token], at: usize) -> Result<Option<(Sum, usize)>, AllocError>
     ensures within { IfOk result (λ found. IfSome found (λ s. s.1 ≤ length tokens.now)) }
     ensures later { IfOk result (λ found. IfSome found (λ s. at < s.1)) }
-    ensures stops { IfOk result (λ found. IfSome found (λ s. NoFront more_tokens (drop s.1 tokens.now))) }
+    ensures stops { IfOk result (λ found. IfSome found (λ s. NoFront more_terminals (drop s.1 (terminals tokens.now)))) }
     ensures found { IfOk result (λ found. MatchOption found
-        (NoFront sum_tokens (drop at tokens.now))
-        (λ s. drop at tokens.now ≡ sum_tokens s.0 ++ drop s.1 tokens.now)) }
+        (NoFront sum_terminals (drop at (terminals tokens.now)))
+        (λ s. drop at (terminals tokens.now) ≡ sum_terminals s.0 ++ drop s.1 (terminals tokens.now))) }
 {
     let Some(first) = operand_at(alloc, tokens, at)? else {
         return Ok(None);
@@ -116,16 +115,16 @@ fn sum_at(alloc: Global, tokens: &[Token], at: usize) -> Result<Option<(Sum, usi
 fn declaring_word_at(tokens: &[Token], at: usize) -> Option<DeclaredBy>
     ensures within { IfSome result (λ _. at < length tokens.now) }
     ensures found { MatchOption result
-        (NoFront (λ by. Token.Word (declaring_word by) ∷ []) (drop at tokens.now))
-        (λ by. drop at tokens.now ≡ Token.Word (declaring_word by) ∷ drop (at + 1) tokens.now) }
+        (NoFront (λ by. declaring_terminal by ∷ []) (drop at (terminals tokens.now)))
+        (λ by. drop at (terminals tokens.now) ≡ declaring_terminal by ∷ drop (at + 1) (terminals tokens.now)) }
 {
-    if is_word_at(tokens, at, b"var") {
+    if is_word_at(tokens, at, Word::Var) {
         Some(DeclaredBy::Var)
-    } else if is_word_at(tokens, at, b"int") {
+    } else if is_name_at(tokens, at, b"int") {
         Some(DeclaredBy::Int)
-    } else if is_word_at(tokens, at, b"String") {
+    } else if is_name_at(tokens, at, b"String") {
         Some(DeclaredBy::Text)
-    } else if is_word_at(tokens, at, b"dynamic") {
+    } else if is_word_at(tokens, at, Word::Dynamic) {
         Some(DeclaredBy::Dynamic)
     } else {
         None
@@ -141,8 +140,8 @@ fn declaration_at(
     ensures within { IfOk result (λ found. IfSome found (λ s. s.1 ≤ length tokens.now)) }
     ensures later { IfOk result (λ found. IfSome found (λ s. at < s.1)) }
     ensures found { IfOk result (λ found. MatchOption found
-        ((by : DeclaredBy) (name : List ℕ) → NoFront (λ sum. statement_tokens (Statement.Declare by name sum)) (drop at tokens.now))
-        (λ s. drop at tokens.now ≡ statement_tokens s.0 ++ drop s.1 tokens.now)) }
+        ((by : DeclaredBy) (name : List ℕ) → NoFront (λ sum. statement_terminals (Statement.Declare by name sum)) (drop at (terminals tokens.now)))
+        (λ s. drop at (terminals tokens.now) ≡ statement_terminals s.0 ++ drop s.1 (terminals tokens.now))) }
 {
     let Some(by) = declaring_word_at(tokens, at) else {
         return Ok(None);
@@ -150,13 +149,13 @@ fn declaration_at(
     let Some(name) = name_at(alloc, tokens, at + 1)? else {
         return Ok(None);
     };
-    if !is_sign_at(tokens, at + 2, b'=') {
+    if !is_sign_at(tokens, at + 2, Sign::Assign) {
         return Ok(None);
     }
     let Some((value, end)) = sum_at(alloc, tokens, at + 3)? else {
         return Ok(None);
     };
-    if !is_sign_at(tokens, end, b';') {
+    if !is_sign_at(tokens, end, Sign::Semicolon) {
         return Ok(None);
     }
     Ok(Some((Statement::Declare { by, name, value }, end + 1)))
@@ -171,16 +170,18 @@ fn print_at(
     ensures within { IfOk result (λ found. IfSome found (λ s. s.1 ≤ length tokens.now)) }
     ensures later { IfOk result (λ found. IfSome found (λ s. at < s.1)) }
     ensures found { IfOk result (λ found. MatchOption found
-        (NoFront (λ sum. statement_tokens (Statement.Print sum)) (drop at tokens.now))
-        (λ s. drop at tokens.now ≡ statement_tokens s.0 ++ drop s.1 tokens.now)) }
+        (NoFront (λ sum. statement_terminals (Statement.Print sum)) (drop at (terminals tokens.now)))
+        (λ s. drop at (terminals tokens.now) ≡ statement_terminals s.0 ++ drop s.1 (terminals tokens.now))) }
 {
-    if !is_word_at(tokens, at, b"print") || !is_sign_at(tokens, at + 1, b'(') {
+    if !is_name_at(tokens, at, b"print") || !is_sign_at(tokens, at + 1, Sign::LeftParenthesis) {
         return Ok(None);
     }
     let Some((sum, end)) = sum_at(alloc, tokens, at + 2)? else {
         return Ok(None);
     };
-    if !is_sign_at(tokens, end, b')') || !is_sign_at(tokens, end + 1, b';') {
+    if !is_sign_at(tokens, end, Sign::RightParenthesis)
+        || !is_sign_at(tokens, end + 1, Sign::Semicolon)
+    {
         return Ok(None);
     }
     Ok(Some((Statement::Print(sum), end + 2)))
@@ -195,8 +196,8 @@ fn statement_at(
     ensures within { IfOk result (λ found. IfSome found (λ s. s.1 ≤ length tokens.now)) }
     ensures later { IfOk result (λ found. IfSome found (λ s. at < s.1)) }
     ensures found { IfOk result (λ found. MatchOption found
-        (NoFront statement_tokens (drop at tokens.now))
-        (λ s. drop at tokens.now ≡ statement_tokens s.0 ++ drop s.1 tokens.now)) }
+        (NoFront statement_terminals (drop at (terminals tokens.now)))
+        (λ s. drop at (terminals tokens.now) ≡ statement_terminals s.0 ++ drop s.1 (terminals tokens.now))) }
 {
     match print_at(alloc, tokens, at)? {
         Some(found) => Ok(Some(found)),
@@ -206,21 +207,21 @@ fn statement_at(
 
 // Whether the tokens begin with `main ( ) {`.
 fn has_head(tokens: &[Token]) -> bool
-    ensures yes { result ≡ true → tokens.now ≡ program_head ++ drop 4 tokens.now }
+    ensures yes { result ≡ true → terminals tokens.now ≡ program_head ++ drop 4 (terminals tokens.now) }
     ensures within { result ≡ true → 4 ≤ length tokens.now }
-    ensures no { result ≡ false → (rest : List Token) → tokens.now ≡ program_head ++ rest → ⊥ }
+    ensures no { result ≡ false → (rest : List Seen) → terminals tokens.now ≡ program_head ++ rest → ⊥ }
 {
-    is_word_at(tokens, 0, b"main")
-        && is_sign_at(tokens, 1, b'(')
-        && is_sign_at(tokens, 2, b')')
-        && is_sign_at(tokens, 3, b'{')
+    is_name_at(tokens, 0, b"main")
+        && is_sign_at(tokens, 1, Sign::LeftParenthesis)
+        && is_sign_at(tokens, 2, Sign::RightParenthesis)
+        && is_sign_at(tokens, 3, Sign::LeftBrace)
 }
 
 /// The program that has these tokens, or None where none has.
 pub fn program(alloc: Global, tokens: &[Token]) -> Result<Option<Vec<Statement>>, AllocError>
     ensures { IfOk result (λ found. MatchOption found
-        ((statements : List Statement) → program_tokens statements ≡ tokens.now → ⊥)
-        (λ statements. program_tokens statements.items ≡ tokens.now)) }
+        ((statements : List Statement) → program_terminals statements ≡ terminals tokens.now → ⊥)
+        (λ statements. program_terminals statements.items ≡ terminals tokens.now)) }
 {
     if !has_head(tokens) {
         return Ok(None);
@@ -231,7 +232,7 @@ pub fn program(alloc: Global, tokens: &[Token]) -> Result<Option<Vec<Statement>>
         statements.push(statement)?;
         at = end;
     }
-    if !is_sign_at(tokens, at, b'}') || at + 1 != tokens.len() {
+    if !is_sign_at(tokens, at, Sign::RightBrace) || at + 1 != tokens.len() {
         return Ok(None);
     }
     Ok(Some(statements))

@@ -4,7 +4,7 @@ ghost use Rattle.std.specs.List.{list_any};
 ghost use Rattle.std.specs.Option.{option_copied, option_map};
 ghost use Rattle.std.specs.Str.{bytes_eq};
 ghost use Rattle.dart_tool.specs.declared.program.Operand.{Operand};
-ghost use Rattle.dart_tool.specs.Names.{Kind as DeclaredKind, Kind.numeric, kind_of, operand_kind, SumHas, is_one_of, reserved_words, built_in_identifiers, used_names, is_taken, Fits};
+ghost use Rattle.dart_tool.specs.Names.{Kind as DeclaredKind, Kind.numeric, kind_of, operand_kind, SumHas, is_taken, Fits};
 ghost use Rattle.dart_tool.specs.Scope.{seen_kind, kinds_of};
 
 use crate::program::{Operand, Statement, Sum};
@@ -24,61 +24,6 @@ struct Variable<'a> {
     kind: Kind,
 }
 
-const RESERVED_WORDS: [&[u8]; 33] = [
-    b"assert",
-    b"break",
-    b"case",
-    b"catch",
-    b"class",
-    b"const",
-    b"continue",
-    b"default",
-    b"do",
-    b"else",
-    b"enum",
-    b"extends",
-    b"false",
-    b"final",
-    b"finally",
-    b"for",
-    b"if",
-    b"in",
-    b"is",
-    b"new",
-    b"null",
-    b"rethrow",
-    b"return",
-    b"super",
-    b"switch",
-    b"this",
-    b"throw",
-    b"true",
-    b"try",
-    b"var",
-    b"void",
-    b"while",
-    b"with",
-];
-
-const BUILT_IN_IDENTIFIERS: [&[u8]; 16] = [
-    b"abstract",
-    b"as",
-    b"deferred",
-    b"dynamic",
-    b"export",
-    b"external",
-    b"factory",
-    b"get",
-    b"implements",
-    b"import",
-    b"library",
-    b"operator",
-    b"part",
-    b"set",
-    b"static",
-    b"typedef",
-];
-
 // Names that the subset itself uses.
 const USED_NAMES: [&[u8]; 4] = [b"main", b"print", b"int", b"String"];
 
@@ -88,29 +33,11 @@ fn is_one_of(words: &[&[u8]], name: &[u8]) -> bool
     words.iter().any(|word| *word == name)
 }
 
-fn is_reserved_word(name: &[u8]) -> bool
-    ensures { result ≡ is_one_of reserved_words name.now }
-{
-    is_one_of(&RESERVED_WORDS, name)
-}
-
-fn is_built_in_identifier(name: &[u8]) -> bool
-    ensures { result ≡ is_one_of built_in_identifiers name.now }
-{
-    is_one_of(&BUILT_IN_IDENTIFIERS, name)
-}
-
-fn is_used_name(name: &[u8]) -> bool
-    ensures { result ≡ is_one_of used_names name.now }
-{
-    is_one_of(&USED_NAMES, name)
-}
-
 // Whether no variable may have the name.
 fn is_taken(name: &[u8]) -> bool
     ensures { result ≡ is_taken name.now }
 {
-    is_reserved_word(name) || is_built_in_identifier(name) || is_used_name(name)
+    is_one_of(&USED_NAMES, name)
 }
 
 // The variable of a name.

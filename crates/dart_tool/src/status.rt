@@ -1,6 +1,10 @@
 // How a run of the tool ends, and why it refuses a program.
 ghost use Rattle.std.specs.Prelude.{◌≡◌};
-ghost use Rattle.dart_tool.specs.Status.{status_number, refusal_text};
+ghost use Rattle.dart_tool.specs.Status.{status_number, refusal_text, lexical_refusal};
+
+use dart_base::feature::Feature;
+use dart_base::place::Place;
+use dart_lex::lexer::LexFault;
 
 /// How a run of the tool ends. Another one is also a line of `status_number` in specs/Status.antt.
 #[derive(Clone, Copy, Debug, PartialEq, Eq)]
@@ -38,22 +42,51 @@ impl Status {
     }
 }
 
-/// Why a program is refused. Another one is also a line of `refusal_text` in specs/Status.antt.
+/// Why a file is refused. Another one is also a line of `refusal_text` in specs/Status.antt.
 #[derive(Clone, Copy, Debug, PartialEq, Eq)]
 pub enum Refusal {
     /// There is no such file.
     NotFound,
+    /// The file has too many bytes or lines, or its tokens too much weight.
+    TooLarge,
+    /// The file is UTF-8 up to this offset in bytes, and no further.
+    NotUtf8(u64),
+    /// No token begins here, or what begins here is not closed.
+    BadToken(Place),
+    /// The profile leaves out what begins here.
+    LeftOut(Place, Feature),
+    /// The integer here is above 2^127 - 1.
+    IntegerTooLarge(Place),
     /// The file is no program of the subset that is built so far.
     NotBuilt,
 }
 
 impl Refusal {
+    /// The refusal for a lexical reason, or None for want of memory, which is none.
+    pub fn of_lexis(fault: LexFault) -> Option<Refusal>
+        ensures { result ≡ lexical_refusal fault }
+    {
+        match fault {
+            LexFault::TooLarge => Some(Refusal::TooLarge),
+            LexFault::NotUtf8(offset) => Some(Refusal::NotUtf8(offset)),
+            LexFault::BadToken(place) => Some(Refusal::BadToken(place)),
+            LexFault::LeftOut(place, feature) => Some(Refusal::LeftOut(place, feature)),
+            LexFault::IntegerTooLarge(place) => Some(Refusal::IntegerTooLarge(place)),
+            LexFault::Memory => None,
+        }
+    }
+
     /// The kind as the line of a refusal shows it.
     pub fn text(self) -> &'static [u8]
         ensures { result.now ≡ refusal_text self }
     {
         match self {
             Refusal::NotFound => b"NotFound",
+            Refusal::TooLarge => b"TooLarge",
+            Refusal::NotUtf8(_) => b"NotUtf8",
+            Refusal::BadToken(_) => b"BadToken",
+            Refusal::LeftOut(_, _) => b"LeftOut",
+            Refusal::IntegerTooLarge(_) => b"IntegerTooLarge",
             Refusal::NotBuilt => b"NotBuilt",
         }
     }

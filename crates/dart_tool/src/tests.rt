@@ -44,7 +44,7 @@ fn programs(rt: HostRuntime) -> Result<(), AllocError> {
         (ONE_SUM, "3\n", Status::Done),
         ("main() {}", "", Status::Done),
         (
-            "main ( ){\nprint(007);print('a b') ;\n}\n",
+            "main ( ){\r\n\tprint(007); // seven\nprint('a b') /* and /* a */ text */;\n}\n",
             "7\na b\n",
             Status::Done,
         ),
@@ -89,7 +89,7 @@ fn programs(rt: HostRuntime) -> Result<(), AllocError> {
         ),
         (
             "main() { print(170141183460469231731687303715884105728); }",
-            NOT_BUILT,
+            "** refused IntegerTooLarge a.dart:1:16\n",
             Status::Refused,
         ),
         (
@@ -108,6 +108,79 @@ fn programs(rt: HostRuntime) -> Result<(), AllocError> {
         let got = dart_in_memory(&rt, alloc, &words, &mut sources, &mut sink, &OpenGate);
         assert_eq!(rt; got, status, "{text}");
         assert!(rt; sink.written() == want.as_bytes(), "{text}");
+    }
+    Ok(())
+}
+
+#[test]
+fn lexical_reasons(rt: HostRuntime) -> Result<(), AllocError> {
+    let alloc = rt.alloc();
+    let words = words(alloc, &["run", "a.dart"])?;
+    for (text, want) in [
+        (
+            b"main() { print('ab".as_slice(),
+            "** refused BadToken a.dart:1:16\n",
+        ),
+        (b"main() { print('ab\n", "** refused BadToken a.dart:1:16\n"),
+        (b"m\xff", "** refused NotUtf8 a.dart 1\n"),
+        (b"\\\\\\\xc0", "** refused NotUtf8 a.dart 3\n"),
+        (b"/* a /* b */", "** refused BadToken a.dart:1:1\n"),
+        (b"main() {}\n /* /* */", "** refused BadToken a.dart:2:2\n"),
+        (
+            b"main() { print('${1}ab",
+            "** refused BadToken a.dart:1:20\n",
+        ),
+        (b"main() { print('${1", NOT_BUILT),
+        (b"}", NOT_BUILT),
+        (b"main() { var a$ = 1; }", NOT_BUILT),
+        (
+            b"main() {\n\tprint(1.5); #}",
+            "** refused LeftOut a.dart:2:8 Doubles\n",
+        ),
+        (
+            b"main() { print(#a); }",
+            "** refused LeftOut a.dart:1:16 Symbols\n",
+        ),
+        (
+            b"main() { a?.b; }",
+            "** refused LeftOut a.dart:1:11 NullAware\n",
+        ),
+        (
+            b"main() { print('''a'''); }",
+            "** refused LeftOut a.dart:1:16 TripleQuotes\n",
+        ),
+        (
+            b"main() { print(0x80000000000000000000000000000000); }",
+            "** refused IntegerTooLarge a.dart:1:16\n",
+        ),
+    ] {
+        let mut sources = NoFaultSources::new(alloc, files(alloc, text)?);
+        let mut sink = NoFaultSink::new(alloc);
+        let got = dart_in_memory(&rt, alloc, &words, &mut sources, &mut sink, &OpenGate);
+        assert_eq!(rt; got, Status::Refused);
+        assert!(rt; sink.written() == want.as_bytes(), "{want}");
+    }
+    Ok(())
+}
+
+// The limits of bytes, lines and weight, and what is just within that of lines.
+#[test]
+fn sizes(rt: HostRuntime) -> Result<(), AllocError> {
+    let alloc = rt.alloc();
+    let words = words(alloc, &["run", "a.dart"])?;
+    for (length, byte, want) in [
+        (64_000_001, b' ', "** refused TooLarge a.dart\n"),
+        (1_000_001, b'\n', "** refused TooLarge a.dart\n"),
+        (1_000_000, b'\n', NOT_BUILT),
+        (4_000_001, b'a', "** refused TooLarge a.dart\n"),
+    ] {
+        let mut text = Vec::new(alloc);
+        text.resize(length, byte)?;
+        let mut sources = NoFaultSources::new(alloc, files(alloc, &text)?);
+        let mut sink = NoFaultSink::new(alloc);
+        let got = dart_in_memory(&rt, alloc, &words, &mut sources, &mut sink, &OpenGate);
+        assert_eq!(rt; got, Status::Refused);
+        assert!(rt; sink.written() == want.as_bytes());
     }
     Ok(())
 }

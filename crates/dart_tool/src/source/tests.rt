@@ -1,6 +1,9 @@
 // Texts that are the source of a program, and texts that are not.
 use super::source_program;
 use crate::program::{Operand, Statement};
+use dart_base::feature::Feature;
+use dart_base::place::Place;
+use dart_lex::lexer::LexFault;
 use std::test::Fail;
 
 #[test]
@@ -17,6 +20,9 @@ fn sources(rt: HostRuntime) -> Result<(), Fail> {
         "main() { var a = 'x'; var b = a; print(b); }",
         "main() { var _1 = 1; int get2 = _1; var Int = get2; print(Int + _1); }",
         "main() { print(''); print(' !\"#%&()~'); }",
+        "main() {\tprint(1);\r\n}",
+        "#!/usr/bin/dart\nmain() { // nothing\n}",
+        "main() { /* a /* b */ */ print(1/**/+2); }",
     ] {
         let found = source_program(rt.alloc(), text.as_bytes())?;
         assert!(rt; found.is_some(), "{text}");
@@ -39,22 +45,49 @@ fn no_sources_by_their_grammar(rt: HostRuntime) -> Result<(), Fail> {
         "main() {",
         "main() {} main() {}",
         "main() {};",
-        "main() { print(170141183460469231731687303715884105728); }",
         "main() { print(0x10); }",
-        "main() { print('a); }",
-        "main() { print('a\n'); }",
         "main() { print('a\\n'); }",
-        "main() { print('$'); }",
+        "main() { print('$a'); }",
+        "main() { print('${1}'); }",
+        "main() { print('${1",
         "main() { print('\u{e9}'); }",
         "main() { print(\"a\"); }",
+        "main() { print(r'a'); }",
+        "main() { print('a' 'b'); }",
         "main() { var a$ = 1; }",
-        "main() {\tprint(1); }",
-        "main() {\r\n}",
-        "main() { // nothing\n}",
-        "main() { /* nothing */ }",
+        "main() { $print(1); }",
+        "main() { print(1 - 2); }",
+        "}",
     ] {
         let found = source_program(rt.alloc(), text.as_bytes())?;
         assert!(rt; found.is_none(), "{text}");
+    }
+    Ok(())
+}
+
+#[test]
+fn reasons(rt: HostRuntime) -> Result<(), Fail> {
+    let place = Place {
+        unit: 0,
+        line: 1,
+        column: 16,
+    };
+    for (text, want) in [
+        ("main() { print('a); }", LexFault::BadToken(place)),
+        ("main() { print('$'); }", LexFault::BadToken(place)),
+        (
+            "main() { print(170141183460469231731687303715884105728); }",
+            LexFault::IntegerTooLarge(place),
+        ),
+        (
+            "main() { print(1.5); }",
+            LexFault::LeftOut(place, Feature::Doubles),
+        ),
+    ] {
+        match source_program(rt.alloc(), text.as_bytes()) {
+            Ok(_) => return Err(Fail::from("no reason")),
+            Err(reason) => assert_eq!(rt; reason, want, "{text}"),
+        }
     }
     Ok(())
 }

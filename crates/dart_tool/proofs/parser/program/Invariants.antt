@@ -1,12 +1,13 @@
 use Rattle.std.proofs.Common.{◌≡◌, ◌≤◌, ◌++◌, ◌-◌, length, drop}
 use Rattle.std.specs.List.{flat_map}
-use Rattle.dart_tool.specs.Program.{program_head, statement_tokens}
+use Rattle.dart_tool.specs.Program.{program_head, statement_terminals}
+use Rattle.dart_tool.specs.Terminal.{terminals}
 use Rattle.dart_tool.proofs.parser.program.Given as goal
 
 abbrev pub invariant-loop-statements : goal.invariant-loop-statements
 invariant-loop-statements l = record {
   within : l.at ≤ length l.tokens;
-  whole : l.tokens ≡ program_head ++ (flat_map statement_tokens l.statements.items ++ drop l.at l.tokens);
+  whole : terminals l.tokens ≡ program_head ++ (flat_map statement_terminals l.statements.items ++ drop l.at (terminals l.tokens));
 }
 
 abbrev pub decreases-loop-statements : goal.decreases-loop-statements

@@ -1,0 +1,2 @@
+main() { print(r'a
+'); }

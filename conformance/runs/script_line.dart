@@ -1,0 +1,2 @@
+#!/usr/bin/env dart
+main() { print(1); }
