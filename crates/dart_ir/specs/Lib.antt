@@ -1,0 +1,2 @@
+pub mod Ty
+pub mod Classes

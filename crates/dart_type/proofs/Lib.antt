@@ -1,0 +1,16 @@
+pub mod Transitive
+pub mod Chain
+pub mod Instances
+pub mod Interned
+pub mod Entered
+pub mod Floored
+pub mod Ordered
+pub mod Decided
+pub mod Measure
+pub mod Paired
+pub mod Risen
+pub mod Assigned
+pub mod Taken
+pub mod Searched
+pub mod Closed
+pub mod Tested
