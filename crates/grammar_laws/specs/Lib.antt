@@ -1,0 +1,9 @@
+pub mod Codes
+pub mod Readers
+pub mod Fronts
+pub mod Laws
+pub mod Depth
+pub mod Halves
+pub mod Ladder
+pub mod Wholes
+pub mod Statements
