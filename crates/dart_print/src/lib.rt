@@ -1,0 +1,9 @@
+// The tokens of a unit, in order.
+#![tactic(auto)]
+
+mod declaration;
+mod leaf;
+mod tree;
+mod unit;
+
+pub use unit::tokens;

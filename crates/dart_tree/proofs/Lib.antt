@@ -1,0 +1,6 @@
+pub mod Rows
+pub mod Twice
+pub mod Shallower
+pub mod Fitting
+pub mod Thinning
+pub mod Facts

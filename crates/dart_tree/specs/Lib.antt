@@ -1,0 +1,15 @@
+pub mod Types
+pub mod Tree
+pub mod View
+pub mod LeafTokens
+pub mod Tokens
+pub mod Lists
+pub mod Erased
+pub mod Unit
+pub mod UnitView
+pub mod UnitTokens
+pub mod Depth
+pub mod Well
+pub mod UnitErased
+pub mod Thinned
+pub mod UnitWell
