@@ -1,0 +1,11 @@
+pub mod Facts
+pub mod Starts
+pub mod Openings
+pub mod Operands
+pub mod Stages
+pub mod Commas
+pub mod Depths
+pub mod Units
+pub mod Accessors
+pub mod Shifts
+pub mod Empty
