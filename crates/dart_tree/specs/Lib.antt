@@ -9,6 +9,7 @@ pub mod Unit
 pub mod UnitView
 pub mod UnitTokens
 pub mod Depth
+pub mod Levels
 pub mod Well
 pub mod UnitErased
 pub mod Thinned

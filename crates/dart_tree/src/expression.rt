@@ -12,7 +12,6 @@ use dart_token::token::Quote;
 
 /// An expression (ECMA-408, 16 Expressions).
 #[cycle(tree)]
-#[derive(Drop)]
 pub enum Expr {
     /// `a = b` or `a += b` (16.19 Assignment)
     Assign(Operand, Operator, Box<Expr>),
@@ -22,30 +21,55 @@ pub enum Expr {
     Throw(Place, Box<Expr>),
 }
 
+// The enums of the trees implement the trait themselves, so a crate above need not prove again what each holds.
+impl Drop for Expr {
+    #[cycle(drops)]
+    fn drop(self) {
+        match self {
+            Expr::Assign(_, _, _) => {}
+            Expr::Plain(_, _) => {}
+            Expr::Throw(_, _) => {}
+        }
+    }
+}
+
 /// What an operator applies to: the levels from a conditional to a postfix expression, and a primary.
 #[cycle(tree)]
-#[derive(Drop)]
 pub enum Operand {
     /// `a ? b : c` (16.20 Conditional)
     Conditional(Box<Operand>, Place, Box<Expr>, Place, Box<Expr>),
     /// `a + b - c`, a chain of one level of binary operators: `||`, `&&`, equality, relation, `|`, `^`, `&`, shift,
-    /// sum and product (16.21 to 16.26)
+    /// sum and product (16.22 to 16.28)
     Binary(Box<Operand>, Vec<Tail>),
     /// `a is T` or `a is! T` (16.34 Type Test)
     Is(Box<Operand>, Place, Option<Place>, TypeNode),
     /// `a as T` (16.35 Type Cast)
     As(Box<Operand>, Place, TypeNode),
-    /// `-a`, `!a`, `~a`, `++a` or `--a` (16.28 Unary Expressions)
+    /// `-a`, `!a`, `~a`, `++a` or `--a` (16.29 Unary Expressions)
     Prefix(Operator, Box<Operand>),
-    /// `a.b[c](d)`, `a++` or `a.b--` (16.30 Postfix Expressions)
+    /// `a.b[c](d)`, `a++` or `a.b--` (16.31 Postfix Expressions)
     Postfix(Primary, Vec<Selector>, Option<Operator>),
     /// `a`
     Primary(Primary),
 }
 
+impl Drop for Operand {
+    #[cycle(drops)]
+    fn drop(self) {
+        match self {
+            Operand::Conditional(_, _, _, _, _) => {}
+            Operand::Binary(_, _) => {}
+            Operand::Is(_, _, _, _) => {}
+            Operand::As(_, _, _) => {}
+            Operand::Prefix(_, _) => {}
+            Operand::Postfix(_, _, _) => {}
+            Operand::Primary(_) => {}
+        }
+    }
+}
+
 /// What a selector applies to.
 #[cycle(tree)]
-#[derive(Drop)]
 pub enum Primary {
     /// `super.a`, `super[a]` or `super(a)`
     Super(Place, Box<Selector>),
@@ -65,6 +89,23 @@ pub enum Primary {
     Function(Parameters, Body),
     /// `(a)`
     Parenthesized(Place, Box<Expr>, Place),
+}
+
+impl Drop for Primary {
+    #[cycle(drops)]
+    fn drop(self) {
+        match self {
+            Primary::Super(_, _) => {}
+            Primary::BareSuper(_) => {}
+            Primary::Atom(_) => {}
+            Primary::Text(_) => {}
+            Primary::List(_, _, _, _, _) => {}
+            Primary::Map(_, _, _, _, _) => {}
+            Primary::New(_, _, _, _) => {}
+            Primary::Function(_, _) => {}
+            Primary::Parenthesized(_, _, _) => {}
+        }
+    }
 }
 
 /// An expression of one token.
@@ -117,7 +158,6 @@ pub struct StringPiece {
 
 /// A selector (ECMA-408, 16.13 to 16.18).
 #[cycle(tree)]
-#[derive(Drop)]
 pub enum Selector {
     /// `.a`, or `a` directly behind the `..` of a cascade
     Member(Option<Place>, Identifier),
@@ -125,6 +165,17 @@ pub enum Selector {
     Index(Place, Box<Expr>, Place),
     /// `(a, b: c)`
     Call(Arguments),
+}
+
+impl Drop for Selector {
+    #[cycle(drops)]
+    fn drop(self) {
+        match self {
+            Selector::Member(_, _) => {}
+            Selector::Index(_, _, _) => {}
+            Selector::Call(_) => {}
+        }
+    }
 }
 
 /// `..a.b(c)` or `..a[b] = c` (ECMA-408, 16.17.2 Cascaded Invocations).
@@ -140,12 +191,21 @@ pub struct Cascade {
 
 /// An expression that may be left out, with the sign before it where it has one: `= a`, `: a`, `+= a` or `a`.
 #[cycle(tree)]
-#[derive(Drop)]
 pub enum Value {
     /// Nothing.
     Omitted,
     /// `a` or `= a`
     Given(Option<Operator>, Box<Expr>),
+}
+
+impl Drop for Value {
+    #[cycle(drops)]
+    fn drop(self) {
+        match self {
+            Value::Omitted => {}
+            Value::Given(_, _) => {}
+        }
+    }
 }
 
 /// `(a, b: c)` (ECMA-408, 16.14.1 Actual Argument List Evaluation).

@@ -1,4 +1,4 @@
-// The tokens and the trees of units, and the tables of the words and signs that they spell.
+// The trees of units, a type for each production, with what their tokens, their depth and their erasure are.
 #![tactic(auto)]
 
 pub mod declaration;

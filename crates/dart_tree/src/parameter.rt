@@ -45,12 +45,21 @@ pub struct Parameter {
 
 /// How a parameter is declared (ECMA-408, 9.2.1 Required Formals).
 #[cycle(tree)]
-#[derive(Drop)]
 pub enum ParameterKind {
     /// `a`, `var a`, `final int a`, `int a` or `int this.a`
     Plain(VariableKind, Option<ThisDot>, Identifier),
     /// `int a(b)`, a function
     Function(Option<ResultType>, Option<ThisDot>, Identifier, Parameters),
+}
+
+impl Drop for ParameterKind {
+    #[cycle(drops)]
+    fn drop(self) {
+        match self {
+            ParameterKind::Plain(_, _, _) => {}
+            ParameterKind::Function(_, _, _, _) => {}
+        }
+    }
 }
 
 /// What stands before the name of a variable (ECMA-408, 8 Variables).

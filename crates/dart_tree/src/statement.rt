@@ -16,7 +16,6 @@ pub struct Block {
 
 /// A statement (ECMA-408, 17 Statements).
 #[cycle(tree)]
-#[derive(Drop)]
 pub enum Stmt {
     /// `a: b;` (17.3 Labels)
     Labelled(Label, Box<Stmt>),
@@ -44,9 +43,28 @@ pub enum Stmt {
     Expression(Value, Place),
 }
 
+impl Drop for Stmt {
+    #[cycle(drops)]
+    fn drop(self) {
+        match self {
+            Stmt::Labelled(_, _) => {}
+            Stmt::Block(_) => {}
+            Stmt::Variables(_) => {}
+            Stmt::Function(_) => {}
+            Stmt::If(_, _, _, _, _) => {}
+            Stmt::IfElse(_, _, _, _, _, _, _) => {}
+            Stmt::Loop(_) => {}
+            Stmt::Switch(_, _, _, _, _, _, _) => {}
+            Stmt::Try(_, _, _) => {}
+            Stmt::Return(_, _, _) => {}
+            Stmt::Jump(_) => {}
+            Stmt::Expression(_, _) => {}
+        }
+    }
+}
+
 /// A loop.
 #[cycle(tree)]
-#[derive(Drop)]
 pub enum Loop {
     /// `for (a; b; c) d;` (17.6.1 For Loop)
     For(Place, Place, Value, Place, Value, Place, Vec<Item>, Place, Box<Stmt>),
@@ -58,6 +76,19 @@ pub enum Loop {
     While(Place, Place, Expr, Place, Box<Stmt>),
     /// `do a; while (b);` (17.8 Do)
     Do(Place, Box<Stmt>, Place, Place, Expr, Place, Place),
+}
+
+impl Drop for Loop {
+    #[cycle(drops)]
+    fn drop(self) {
+        match self {
+            Loop::For(_, _, _, _, _, _, _, _, _) => {}
+            Loop::ForVariables(_, _, _, _, _, _, _, _) => {}
+            Loop::ForIn(_, _, _, _, _, _, _, _) => {}
+            Loop::While(_, _, _, _, _) => {}
+            Loop::Do(_, _, _, _, _, _, _) => {}
+        }
+    }
 }
 
 /// A statement of a word and perhaps a label.
@@ -144,7 +175,6 @@ pub struct Function {
 
 /// The body of a function (ECMA-408, 9 Functions).
 #[cycle(tree)]
-#[derive(Drop)]
 pub enum Body {
     /// `=> a;`, or `=> a` in a function literal
     Arrow(Place, Box<Expr>, Option<Place>),
@@ -152,4 +182,15 @@ pub enum Body {
     Block(Block),
     /// `;`
     Omitted(Place),
+}
+
+impl Drop for Body {
+    #[cycle(drops)]
+    fn drop(self) {
+        match self {
+            Body::Arrow(_, _, _) => {}
+            Body::Block(_) => {}
+            Body::Omitted(_) => {}
+        }
+    }
 }

@@ -4,12 +4,21 @@ use dart_base::place::Place;
 
 /// A type (ECMA-408, 19.1 Static Types).
 #[cycle(types)]
-#[derive(Drop)]
 pub enum TypeNode {
     /// `dynamic`
     Dynamic(Place),
     /// `A`, `p.A` or `A<B, C>`
     Named(Identifier, Option<DotName>, TypeArguments),
+}
+
+impl Drop for TypeNode {
+    #[cycle(type_drops)]
+    fn drop(self) {
+        match self {
+            TypeNode::Dynamic(_) => {}
+            TypeNode::Named(_, _, _) => {}
+        }
+    }
 }
 
 /// The type arguments of a type or of a literal (ECMA-408, 14 Generics).
