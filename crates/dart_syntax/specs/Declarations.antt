@@ -7,26 +7,32 @@ use Rattle.dart_token.specs.declared.word.Word.TheVariants as w
 use Rattle.dart_tree.specs.declared.identifier.Identifier.{Identifier}
 use Rattle.dart_tree.specs.declared.identifier.Identifier.TheVariants as i
 use Rattle.dart_tree.specs.declared.identifier.DotName.{DotName}
+use Rattle.dart_tree.specs.declared.declaration.Modifier.{Modifier}
+use Rattle.dart_tree.specs.declared.declaration.Modifier.TheVariants as m
+use Rattle.dart_tree.specs.declared.declaration.OperatorName.{OperatorName}
+use Rattle.dart_tree.specs.declared.declaration.OperatorName.TheVariants as o
+use Rattle.dart_tree.specs.declared.declaration.ConstructorName.{ConstructorName}
 use Rattle.dart_tree.specs.LeafTokens.{identifier_tokens}
 use Rattle.dart_tree.specs.Types.{TypeNode, named_type, no_types}
 use Rattle.dart_tree.specs.Tree as t
 use Rattle.dart_tree.specs.Tree.{Body, Function, Parameters, Metadata}
 use Rattle.dart_tree.specs.Tokens.{body_tokens, function_tokens}
+use Rattle.dart_tree.specs.Unit as d
+use Rattle.dart_tree.specs.Unit.{Bound, TypeClause, TypeParameter, TypeParameters, Superclass, Alias, AccessorKind, Accessor, OperatorMember, InitKind, Init, Initializers, Constructor, MemberKind, Member, ClassKind, Class, DeclKind, Decl}
+use Rattle.dart_tree.specs.UnitTokens.{clause_tokens, bound_tokens, type_parameters_tokens, superclass_tokens, alias_tokens, accessor_kind_tokens, accessor_tokens, operator_name_tokens, operator_member_tokens, constructor_name_tokens, init_kind_tokens, initializers_tokens, constructor_tokens, modifier_tokens, member_kind_tokens, member_tokens, class_kind_tokens, class_tokens, decl_kind_tokens, decl_tokens}
 use Rattle.dart_syntax.specs.Phrases.{Phrase, seq, seq_if, seq_by, opt, many, either, rather, made, such, no_room, exactly}
 use Rattle.dart_syntax.specs.Leaves.{sign, word, named, identifier, plain_identifier, dot_name, commas}
 use Rattle.dart_syntax.specs.Types.{types, result_over, result_leaves_name}
 use Rattle.dart_syntax.specs.Expressions.{to_cascades}
 use Rattle.dart_syntax.specs.Statements.{StmtNodes, Within, within, metadata_of, this_dot, body_of, function_over}
-use Rattle.dart_syntax.specs.Declared as d
-use Rattle.dart_syntax.specs.Declared.{TypeClause, TypeParameter, TypeParameters, Superclass, Alias, AccessorKind, Accessor, OperatorName, OperatorMember, ConstructorName, InitKind, Init, Initializers, Constructor, Modifier, MemberKind, Member, ClassKind, Class, DeclKind, Decl, mixins_tokens, interfaces_tokens, extends_tokens, type_parameter_tokens, type_parameters_tokens, superclass_tokens, alias_tokens, accessor_kind_tokens, accessor_tokens, operator_name_tokens, operator_member_tokens, constructor_name_tokens, init_kind_tokens, init_tokens, initializers_tokens, constructor_tokens, modifier_tokens, member_kind_tokens, member_tokens, class_kind_tokens, class_tokens, decl_kind_tokens, decl_tokens}
 
 -- ---- the lists of the trees
 
-abbrev pub more_type_parameters : List (Place × (Metadata × (Identifier × Option (Place × TypeNode)))) → List TypeParameter
+abbrev pub more_type_parameters : List (Place × (Metadata × (Identifier × Option Bound))) → List TypeParameter
 more_type_parameters [] = []
 more_type_parameters (x ∷ xs) = record { comma = Some x.0; metadata = x.1.0; name = x.1.1.0; bound = x.1.1.1 } ∷ more_type_parameters xs
 
-abbrev pub to_type_parameters : (Metadata × (Identifier × Option (Place × TypeNode))) × List (Place × (Metadata × (Identifier × Option (Place × TypeNode)))) → List TypeParameter
+abbrev pub to_type_parameters : (Metadata × (Identifier × Option Bound)) × List (Place × (Metadata × (Identifier × Option Bound))) → List TypeParameter
 to_type_parameters x = record { comma = None; metadata = x.0.0; name = x.0.1.0; bound = x.0.1.1 } ∷ more_type_parameters x.1
 
 abbrev pub more_inits : List (Place × InitKind) → List Init
@@ -48,18 +54,22 @@ target_takes_names x = true
 -- ---- parts of declarations, over the nodes that stand inside
 
 module _ (inner : StmtNodes) where
+  -- extends Type
+  abbrev pub bound_over : Phrase Bound
+  bound_over = made bound_tokens (λ x. record { word = x.0; bound = x.1 }) (seq (word w.Extends) inner.expr_nodes.type)
+
   -- < meta id [extends Type] {, meta id [extends Type]} >
   abbrev pub type_parameters_over : Phrase TypeParameters
   type_parameters_over = made type_parameters_tokens (λ x. record { opening = x.0; items = to_type_parameters x.1.0; closing = x.1.1 })
-      (seq (sign s.Less) (seq (commas (seq (metadata_of inner.expr_nodes) (seq plain_identifier (opt (seq (word w.Extends) inner.expr_nodes.type))))) (sign s.Greater)))
+      (seq (sign s.Less) (seq (commas (seq (metadata_of inner.expr_nodes) (seq plain_identifier (opt bound_over)))) (sign s.Greater)))
 
   -- with Type {, Type}
   abbrev pub mixins_over : Phrase TypeClause
-  mixins_over = made mixins_tokens (λ x. record { word = x.0; types = x.1 }) (seq (word w.With) (types inner.expr_nodes.type))
+  mixins_over = made (clause_tokens w.With) (λ x. record { word = x.0; types = x.1 }) (seq (word w.With) (types inner.expr_nodes.type))
 
   -- implements Type {, Type}
   abbrev pub interfaces_over : Phrase TypeClause
-  interfaces_over = made interfaces_tokens (λ x. record { word = x.0; types = x.1 }) (seq (word w.Implements) (types inner.expr_nodes.type))
+  interfaces_over = made (clause_tokens w.Implements) (λ x. record { word = x.0; types = x.1 }) (seq (word w.Implements) (types inner.expr_nodes.type))
 
   -- extends Type [with Type {, Type}]
   abbrev pub superclass_over : Phrase Superclass
@@ -87,7 +97,7 @@ module _ (inner : StmtNodes) where
   -- op = + - * / ~/ % < > <= >= == << > > & | ^ ~ [] []=
   abbrev pub signs_of : List Sign → Phrase OperatorName
   signs_of [] = no_room operator_name_tokens
-  signs_of (x ∷ xs) = either (made operator_name_tokens (λ place. d.one_sign place x) (sign x)) (signs_of xs)
+  signs_of (x ∷ xs) = either (made operator_name_tokens (λ place. o.Sign place x) (sign x)) (signs_of xs)
 
 abbrev pub operator_signs : List Sign
 operator_signs = s.Plus ∷ s.Minus ∷ s.Star ∷ s.Slash ∷ s.TildeSlash ∷ s.Percent ∷ s.Less ∷ s.Greater ∷ s.LessEqual ∷ s.GreaterEqual ∷ s.EqualEqual ∷ s.ShiftLeft ∷ s.Ampersand ∷ s.Bar ∷ s.Caret ∷ s.Tilde ∷ []
@@ -95,9 +105,9 @@ operator_signs = s.Plus ∷ s.Minus ∷ s.Star ∷ s.Slash ∷ s.TildeSlash ∷ 
 module _ (inner : StmtNodes) where
   abbrev pub operator_name_over : Phrase OperatorName
   operator_name_over = either (signs_of inner operator_signs)
-      (either (made operator_name_tokens (λ x. d.shift_right x.0 x.1) (seq (sign s.Greater) (sign s.Greater)))
-      (either (made operator_name_tokens (λ x. d.index x.0 x.1) (seq (sign s.LeftBracket) (sign s.RightBracket)))
-      (made operator_name_tokens (λ x. d.index_assign x.0 x.1.0 x.1.1) (seq (sign s.LeftBracket) (seq (sign s.RightBracket) (sign s.Assign))))))
+      (either (made operator_name_tokens (λ x. o.ShiftRight x.0 x.1) (seq (sign s.Greater) (sign s.Greater)))
+      (either (made operator_name_tokens (λ x. o.Index x.0 x.1) (seq (sign s.LeftBracket) (sign s.RightBracket)))
+      (made operator_name_tokens (λ x. o.IndexAssign x.0 x.1.0 x.1.1) (seq (sign s.LeftBracket) (seq (sign s.RightBracket) (sign s.Assign))))))
 
   -- [external] [result] operator op Params body
   abbrev pub operator_member_over : Phrase OperatorMember
@@ -113,8 +123,8 @@ module _ (inner : StmtNodes) where
 -- Init = super [. id] Args | [this .] id = Cond {Cascade}
 abbrev pub init_over : Within → Phrase InitKind
 init_over inner = either
-    (made init_kind_tokens (λ x. d.super_call x.0 x.1.0 x.1.1) (seq (word w.Super) (seq (opt dot_name) inner.nodes.expr_nodes.arguments)))
-    (made init_kind_tokens (λ x. d.field x.0 x.1.0 x.1.1.0 x.1.1.1.0 (to_cascades x.1.1.1.1))
+    (made init_kind_tokens (λ x. d.super_init x.0 x.1.0 x.1.1) (seq (word w.Super) (seq (opt dot_name) inner.nodes.expr_nodes.arguments)))
+    (made init_kind_tokens (λ x. d.field_init x.0 x.1.0 x.1.1.0 x.1.1.1.0 (to_cascades x.1.1.1.1))
     (seq (opt (this_dot inner.nodes.expr_nodes)) (seq identifier (seq (sign s.Assign) (seq inner.levels.conditional (many inner.nodes.expr_nodes.cascade))))))
 
 abbrev pub init_within : ℕ → Phrase InitKind
@@ -187,17 +197,17 @@ module _ (n : ℕ) where
   -- [static] (Function | Accessor | Variables) | external static (Function | Accessor) | an operator
   abbrev pub member_within : List ℕ → Phrase Member
   member_within class = made member_tokens (λ x. record { metadata = x.0; modifier = x.1.0; kind = x.1.1 }) (seq (metadata_of (within n).nodes.expr_nodes) (rather
-      (modified (exactly modifier_tokens d.no_modifier) (made member_kind_tokens d.constructor_member (constructor_within class n)))
-      (either (modified (exactly modifier_tokens d.no_modifier) (either (callable_within external_or_none) (either variables_within (made member_kind_tokens d.operator_member (operator_member_over (within n).nodes)))))
-      (either (modified (made modifier_tokens d.static_member (word w.Static)) (either (callable_within without_external) variables_within))
-      (modified (made modifier_tokens (λ x. d.external_static x.0 x.1) (seq (word w.External) (word w.Static))) (callable_within without_external))))))
+      (modified (exactly modifier_tokens m.Omitted) (made member_kind_tokens d.constructor_member (constructor_within class n)))
+      (either (modified (exactly modifier_tokens m.Omitted) (either (callable_within external_or_none) (either variables_within (made member_kind_tokens d.operator_member (operator_member_over (within n).nodes)))))
+      (either (modified (made modifier_tokens m.Static (word w.Static)) (either (callable_within without_external) variables_within))
+      (modified (made modifier_tokens (λ x. m.ExternalStatic x.0 x.1) (seq (word w.External) (word w.Static))) (callable_within without_external))))))
 
   -- what follows a class's name and type parameters
   abbrev pub class_kind_within : List ℕ → Phrase ClassKind
   class_kind_within class = either
-      (made class_kind_tokens (λ x. d.declared x.0 x.1.0 x.1.1.0 x.1.1.1.0 x.1.1.1.1)
+      (made class_kind_tokens (λ x. d.declared_class x.0 x.1.0 x.1.1.0 x.1.1.1.0 x.1.1.1.1)
       (seq (opt (superclass_over (within n).nodes)) (seq (opt (interfaces_over (within n).nodes)) (seq (sign s.LeftBrace) (seq (many (member_within class)) (sign s.RightBrace))))))
-      (made class_kind_tokens (λ x. d.mixed x.0 x.1.0 x.1.1.0 x.1.1.1.0 x.1.1.1.1)
+      (made class_kind_tokens (λ x. d.mixed_class x.0 x.1.0 x.1.1.0 x.1.1.1.0 x.1.1.1.1)
       (seq (sign s.Assign) (seq (within n).nodes.expr_nodes.type (seq (mixins_over (within n).nodes) (seq (opt (interfaces_over (within n).nodes)) (sign s.Semicolon))))))
 
   -- Class = [abstract] class id [tparams] and its kind, in which constructors have the class's name

@@ -18,6 +18,7 @@ use Rattle.dart_tree.specs.declared.expression.Atom.{Atom}
 use Rattle.dart_tree.specs.declared.expression.PieceKind.{PieceKind}
 use Rattle.dart_tree.specs.declared.parameter.ThisDot.{ThisDot}
 use Rattle.dart_tree.specs.LeafTokens.{sign_at, word_at, operator_tokens, dot_name_tokens, identifier_tokens, atom_tokens, label_tokens, piece_token, maybe_this}
+pub use Rattle.dart_tree.specs.UnitTokens.{comma_name_tokens}
 use Rattle.dart_syntax.specs.Phrases.{Phrase, leaf, seq, many, either, made, no_room}
 
 abbrev pub sign_tokens : Sign → Place → List Token
@@ -54,9 +55,6 @@ dot_name = made dot_name_tokens (λ x. record { dot = x.0; name = x.1 }) (seq (s
 
 abbrev pub label : Phrase Label
 label = made label_tokens (λ x. record { name = x.0; colon = x.1 }) (seq identifier (sign s.Colon))
-
-abbrev pub comma_name_tokens : CommaName → List Token
-comma_name_tokens x = sign_at x.comma s.Comma ∷ identifier_tokens x.name
 
 abbrev pub comma_name : Phrase CommaName
 comma_name = made comma_name_tokens (λ x. record { comma = x.0; name = x.1 }) (seq (sign s.Comma) identifier)

@@ -3,9 +3,8 @@ pub mod Leaves
 pub mod Types
 pub mod Expressions
 pub mod Statements
-pub mod Declared
 pub mod Declarations
 pub mod Units
 pub mod Reaches
 pub mod Syntax
-pub mod Facts
+pub mod Agreement

@@ -4,8 +4,8 @@ use Rattle.std.specs.Prelude.{ℕ, List, [], ◌∷◌, ◌++◌, flat_map, leng
 use Rattle.dart_tree.specs.Tree as t
 use Rattle.dart_tree.specs.Tree.{Expr, Operand, Primary, Selector, Value, ParameterKind, Stmt, Loop, Body, Arguments, Parameters, Parameter, Annotation, Variables, Function, Block, Tails, Pieces, Selectors, Cascades, Items, Entries, ParameterList, Metadata, Stmts, MoreVariables, SwitchParts, TryParts}
 use Rattle.dart_tree.specs.Tokens.{expr_tokens}
-use Rattle.dart_syntax.specs.Declared as d
-use Rattle.dart_syntax.specs.Declared.{TypeParameter, TypeParameters, Alias, AccessorKind, Accessor, OperatorMember, InitKind, Init, Initializers, Constructor, MemberKind, Member, ClassKind, Class, DeclKind, Decl, DirectiveKind, Directive, UnitTree}
+use Rattle.dart_tree.specs.Unit as d
+use Rattle.dart_tree.specs.Unit.{TypeParameter, TypeParameters, Alias, AccessorKind, Accessor, OperatorMember, InitKind, Init, Initializers, Constructor, MemberKind, Member, ClassKind, Class, DeclKind, Decl, DirectiveKind, Directive, UnitTree}
 
 unfoldable mutual
   pub expr_reach : Expr → List ℕ
@@ -159,8 +159,8 @@ abbrev pub accessor_reach : Accessor → List ℕ
 accessor_reach x = accessor_kind_reach x.kind ++ body_reach x.body
 
 abbrev pub init_kind_reach : InitKind → List ℕ
-init_kind_reach (d.super_call word name arguments) = arguments_reach arguments
-init_kind_reach (d.field this_dot name sign value cascades) = operand_reach value ++ cascades_reach cascades
+init_kind_reach (d.super_init word name arguments) = arguments_reach arguments
+init_kind_reach (d.field_init this_dot name sign value cascades) = operand_reach value ++ cascades_reach cascades
 
 abbrev pub init_reach : Init → List ℕ
 init_reach x = init_kind_reach x.kind
@@ -186,8 +186,8 @@ abbrev pub member_reach : Member → List ℕ
 member_reach x = metadata_reach x.metadata ++ member_kind_reach x.kind
 
 abbrev pub class_kind_reach : ClassKind → List ℕ
-class_kind_reach (d.declared superclass interfaces opening members closing) = flat_map member_reach members
-class_kind_reach (d.mixed sign superclass mixins interfaces semicolon) = []
+class_kind_reach (d.declared_class superclass interfaces opening members closing) = flat_map member_reach members
+class_kind_reach (d.mixed_class sign superclass mixins interfaces semicolon) = []
 
 abbrev pub decl_kind_reach : DeclKind → List ℕ
 decl_kind_reach (d.class_decl x) = type_parameters_reach x.parameters ++ class_kind_reach x.kind
@@ -200,11 +200,11 @@ abbrev pub decl_reach : Decl → List ℕ
 decl_reach x = metadata_reach x.metadata ++ decl_kind_reach x.kind
 
 abbrev pub directive_kind_reach : DirectiveKind → List ℕ
-directive_kind_reach (d.part_of word of name more) = []
-directive_kind_reach (d.library word name more) = []
-directive_kind_reach (d.import word uri prefix combinators) = pieces_reach uri
-directive_kind_reach (d.export word uri combinators) = pieces_reach uri
-directive_kind_reach (d.part word uri) = pieces_reach uri
+directive_kind_reach (d.part_of_directive word of name more) = []
+directive_kind_reach (d.library_directive word name more) = []
+directive_kind_reach (d.import_directive word uri prefix combinators) = pieces_reach uri
+directive_kind_reach (d.export_directive word uri combinators) = pieces_reach uri
+directive_kind_reach (d.part_directive word uri) = pieces_reach uri
 
 abbrev pub directive_reach : Directive → List ℕ
 directive_reach x = metadata_reach x.metadata ++ directive_kind_reach x.kind

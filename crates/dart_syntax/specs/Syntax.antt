@@ -11,7 +11,8 @@ use Rattle.dart_token.specs.declared.sign.Sign.TheVariants as s
 use Rattle.dart_token.specs.declared.word.Word.{Word}
 use Rattle.dart_token.specs.declared.word.Word.TheVariants as w
 use Rattle.grammar_laws.specs.Wholes.{FirstBad}
-use Rattle.dart_syntax.specs.Declared.{UnitTree, unit_tokens}
+use Rattle.dart_tree.specs.Unit.{UnitTree}
+use Rattle.dart_tree.specs.UnitTokens.{unit_tokens}
 use Rattle.dart_syntax.specs.Units.{unit_within}
 use Rattle.dart_syntax.specs.Reaches.{unit_reach}
 

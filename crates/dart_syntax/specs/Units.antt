@@ -4,12 +4,16 @@ use Rattle.dart_token.specs.declared.sign.Sign.TheVariants as s
 use Rattle.dart_token.specs.declared.word.Word.TheVariants as w
 use Rattle.dart_tree.specs.declared.identifier.Identifier.{Identifier}
 use Rattle.dart_tree.specs.declared.identifier.DotName.{DotName}
+use Rattle.dart_tree.specs.declared.unit.CombinatorKind.{CombinatorKind}
+use Rattle.dart_tree.specs.declared.unit.CombinatorKind.TheVariants as k
+use Rattle.dart_tree.specs.declared.unit.Prefix.{Prefix}
+use Rattle.dart_tree.specs.Unit as d
+use Rattle.dart_tree.specs.Unit.{Combinator, DirectiveKind, Directive, Decl, UnitTree}
+use Rattle.dart_tree.specs.UnitTokens.{of_text, combinator_text, combinator_tokens, prefix_tokens, directive_kind_tokens, directive_tokens, unit_tokens}
 use Rattle.dart_syntax.specs.Phrases.{Phrase, seq, opt, many, either, made, no_room}
 use Rattle.dart_syntax.specs.Leaves.{sign, word, named, identifier, plain_identifier, dot_name, comma_name}
 use Rattle.dart_syntax.specs.Expressions.{ExprNodes, strings}
 use Rattle.dart_syntax.specs.Statements.{within, metadata_of}
-use Rattle.dart_syntax.specs.Declared as d
-use Rattle.dart_syntax.specs.Declared.{CombinatorKind, Combinator, DirectiveKind, Directive, Decl, UnitTree, of_text, combinator_text, combinator_tokens, prefix_tokens, directive_kind_tokens, directive_tokens, decl_tokens, unit_tokens}
 use Rattle.dart_syntax.specs.Declarations.{decl_within}
 
 -- id {. id}
@@ -21,7 +25,11 @@ abbrev pub combinator_as : CombinatorKind → Phrase Combinator
 combinator_as kind = made combinator_tokens (λ x. record { kind = kind; word = x.0; first = x.1.0; more = x.1.1 }) (seq (named (combinator_text kind)) (seq identifier (many comma_name)))
 
 abbrev pub combinator : Phrase Combinator
-combinator = either (combinator_as d.show) (combinator_as d.hide)
+combinator = either (combinator_as k.Show) (combinator_as k.Hide)
+
+-- as id
+abbrev pub prefix : Phrase Prefix
+prefix = made prefix_tokens (λ x. record { word = x.0; name = x.1 }) (seq (word w.As) plain_identifier)
 
 module _ (inner : ExprNodes) where
   -- metadata before what a directive says, and a semicolon behind it
@@ -30,23 +38,23 @@ module _ (inner : ExprNodes) where
 
   -- PartOf = meta part of id {. id} ;
   abbrev pub part_of_over : Phrase Directive
-  part_of_over = directive_over (made directive_kind_tokens (λ x. d.part_of x.0 x.1.0 x.1.1.0 x.1.1.1) (seq (word w.Part) (seq (named of_text) dotted)))
+  part_of_over = directive_over (made directive_kind_tokens (λ x. d.part_of_directive x.0 x.1.0 x.1.1.0 x.1.1.1) (seq (word w.Part) (seq (named of_text) dotted)))
 
   -- LibName = meta library id {. id} ;
   abbrev pub library_over : Phrase Directive
-  library_over = directive_over (made directive_kind_tokens (λ x. d.library x.0 x.1.0 x.1.1) (seq (word w.Library) dotted))
+  library_over = directive_over (made directive_kind_tokens (λ x. d.library_directive x.0 x.1.0 x.1.1) (seq (word w.Library) dotted))
 
   -- Import = meta import string [as id] {comb} ;
   abbrev pub import_over : Phrase Directive
-  import_over = directive_over (made directive_kind_tokens (λ x. d.import x.0 x.1.0 x.1.1.0 x.1.1.1) (seq (word w.Import) (seq (strings inner.expr) (seq (opt (seq (word w.As) plain_identifier)) (many combinator)))))
+  import_over = directive_over (made directive_kind_tokens (λ x. d.import_directive x.0 x.1.0 x.1.1.0 x.1.1.1) (seq (word w.Import) (seq (strings inner.expr) (seq (opt prefix) (many combinator)))))
 
   -- Export = meta export string {comb} ;
   abbrev pub export_over : Phrase Directive
-  export_over = directive_over (made directive_kind_tokens (λ x. d.export x.0 x.1.0 x.1.1) (seq (word w.Export) (seq (strings inner.expr) (many combinator))))
+  export_over = directive_over (made directive_kind_tokens (λ x. d.export_directive x.0 x.1.0 x.1.1) (seq (word w.Export) (seq (strings inner.expr) (many combinator))))
 
   -- Part = meta part string ;
   abbrev pub part_over : Phrase Directive
-  part_over = directive_over (made directive_kind_tokens (λ x. d.part x.0 x.1) (seq (word w.Part) (strings inner.expr)))
+  part_over = directive_over (made directive_kind_tokens (λ x. d.part_directive x.0 x.1) (seq (word w.Part) (strings inner.expr)))
 
 -- a directive with at most so many nodes above one another
 abbrev pub directive_within : (ExprNodes → Phrase Directive) → ℕ → Phrase Directive
