@@ -1,0 +1,280 @@
+// Expressions without annotations. Each function reads a tree, and fails only for want of memory.
+ghost use Rattle.std.specs.Prelude.{◌≡◌, IfOk, Option, None, Some};
+ghost use Rattle.dart_tree.specs.Erased as erased;
+ghost use Rattle.dart_tree.specs.Lists.{tails_of, pieces_of, selectors_of, cascades_of, items_of, entries_of};
+ghost use Rattle.dart_tree.specs.View as view;
+
+use crate::statement::{erase_body, erase_parameters};
+use dart_parts::leaf::{
+    copy_atom, copy_bytes, copy_identifier, copy_maybe_dot_name, copy_maybe_label, copy_type,
+    copy_type_arguments,
+};
+use dart_parts::make;
+use dart_tree::expression::{
+    Arguments, Cascade, Entry, Expr, Item, Operand, Primary, Selector, StringPiece, Tail, Value,
+};
+use std::alloc::{AllocError, Global};
+
+/// An expression (ECMA-408, 16 Expressions).
+#[cycle(erase)]
+pub fn erase_expr(alloc: Global, tree: &Expr) -> Result<Expr, AllocError>
+    ensures { IfOk result (λ x. view.expr x ≡ erased.expr (view.expr tree.now)) }
+{
+    match tree {
+        Expr::Assign(target, operator, value) => {
+            let target = erase_operand(alloc, target)?;
+            let value = erase_expr(alloc, value)?;
+            make::assign(alloc, target, *operator, value)
+        }
+        Expr::Plain(operand, cascades) => {
+            let operand = erase_operand(alloc, operand)?;
+            let cascades = erase_cascades(alloc, cascades)?;
+            Ok(Expr::Plain(operand, cascades))
+        }
+        Expr::Throw(word, value) => {
+            let value = erase_expr(alloc, value)?;
+            make::throw(alloc, *word, value)
+        }
+    }
+}
+
+/// What an operator applies to (ECMA-408, 16 Expressions).
+#[cycle(erase)]
+pub fn erase_operand(alloc: Global, tree: &Operand) -> Result<Operand, AllocError>
+    ensures { IfOk result (λ x. view.operand x ≡ erased.operand (view.operand tree.now)) }
+{
+    match tree {
+        Operand::Conditional(condition, question, first, colon, second) => {
+            let condition = erase_operand(alloc, condition)?;
+            let first = erase_expr(alloc, first)?;
+            let second = erase_expr(alloc, second)?;
+            make::conditional(alloc, condition, *question, first, *colon, second)
+        }
+        Operand::Binary(first, more) => {
+            let first = erase_operand(alloc, first)?;
+            let more = erase_tails(alloc, more)?;
+            make::binary(alloc, first, more)
+        }
+        Operand::Is(operand, word, bang, of) => {
+            let operand = erase_operand(alloc, operand)?;
+            let of = copy_type(alloc, of)?;
+            make::is_type(alloc, operand, *word, *bang, of)
+        }
+        Operand::As(operand, word, of) => {
+            let operand = erase_operand(alloc, operand)?;
+            let of = copy_type(alloc, of)?;
+            make::as_type(alloc, operand, *word, of)
+        }
+        Operand::Prefix(operator, operand) => {
+            let operand = erase_operand(alloc, operand)?;
+            make::prefix(alloc, *operator, operand)
+        }
+        Operand::Postfix(operand, selectors, operator) => {
+            let operand = erase_primary(alloc, operand)?;
+            let selectors = erase_selectors(alloc, selectors)?;
+            Ok(Operand::Postfix(operand, selectors, *operator))
+        }
+        Operand::Primary(primary) => {
+            let primary = erase_primary(alloc, primary)?;
+            Ok(Operand::Primary(primary))
+        }
+    }
+}
+
+/// A primary, whose type arguments and whose `new` keep their types (ECMA-408, 16 Expressions).
+#[cycle(erase)]
+pub fn erase_primary(alloc: Global, tree: &Primary) -> Result<Primary, AllocError>
+    ensures { IfOk result (λ x. view.primary x ≡ erased.primary (view.primary tree.now)) }
+{
+    match tree {
+        Primary::Super(word, selector) => {
+            let selector = erase_selector(alloc, selector)?;
+            make::super_access(alloc, *word, selector)
+        }
+        Primary::BareSuper(word) => Ok(Primary::BareSuper(*word)),
+        Primary::Atom(atom) => {
+            let atom = copy_atom(alloc, atom)?;
+            Ok(Primary::Atom(atom))
+        }
+        Primary::Text(pieces) => {
+            let pieces = erase_pieces(alloc, pieces)?;
+            Ok(Primary::Text(pieces))
+        }
+        Primary::List(types, opening, items, comma, closing) => {
+            let types = copy_type_arguments(alloc, types)?;
+            let items = erase_items(alloc, items)?;
+            Ok(Primary::List(types, *opening, items, *comma, *closing))
+        }
+        Primary::Map(types, opening, entries, comma, closing) => {
+            let types = copy_type_arguments(alloc, types)?;
+            let entries = erase_entries(alloc, entries)?;
+            Ok(Primary::Map(types, *opening, entries, *comma, *closing))
+        }
+        Primary::New(word, of, constructor, arguments) => {
+            let of = copy_type(alloc, of)?;
+            let constructor = copy_maybe_dot_name(alloc, constructor)?;
+            let arguments = erase_arguments(alloc, arguments)?;
+            Ok(Primary::New(*word, of, constructor, arguments))
+        }
+        Primary::Function(parameters, body) => {
+            let parameters = erase_parameters(alloc, parameters)?;
+            let body = erase_body(alloc, body)?;
+            Ok(Primary::Function(parameters, body))
+        }
+        Primary::Parenthesized(opening, value, closing) => {
+            let value = erase_expr(alloc, value)?;
+            make::parenthesized(alloc, *opening, value, *closing)
+        }
+    }
+}
+
+/// `.a`, `[a]` or `(a, b: c)`
+#[cycle(erase)]
+pub fn erase_selector(alloc: Global, tree: &Selector) -> Result<Selector, AllocError>
+    ensures { IfOk result (λ x. view.selector x ≡ erased.selector (view.selector tree.now)) }
+{
+    match tree {
+        Selector::Member(dot, name) => {
+            let name = copy_identifier(alloc, name)?;
+            Ok(Selector::Member(*dot, name))
+        }
+        Selector::Index(opening, value, closing) => {
+            let value = erase_expr(alloc, value)?;
+            make::index(alloc, *opening, value, *closing)
+        }
+        Selector::Call(arguments) => {
+            let arguments = erase_arguments(alloc, arguments)?;
+            Ok(Selector::Call(arguments))
+        }
+    }
+}
+
+/// An expression that may be left out.
+#[cycle(erase)]
+pub fn erase_value(alloc: Global, tree: &Value) -> Result<Value, AllocError>
+    ensures { IfOk result (λ x. view.value x ≡ erased.value (view.value tree.now)) }
+{
+    match tree {
+        Value::Omitted => Ok(Value::Omitted),
+        Value::Given(operator, value) => {
+            let value = erase_expr(alloc, value)?;
+            make::given(alloc, *operator, value)
+        }
+    }
+}
+
+/// `(a, b: c)`
+#[cycle(erase)]
+pub fn erase_arguments(alloc: Global, tree: &Arguments) -> Result<Arguments, AllocError>
+    ensures { IfOk result (λ x. view.arguments x ≡ erased.arguments (view.arguments tree.now)) }
+{
+    let items = erase_items(alloc, &tree.items)?;
+    Ok(Arguments {
+        opening: tree.opening,
+        items,
+        closing: tree.closing,
+    })
+}
+
+/// Operands with the operators before them.
+#[cycle(erase)]
+pub fn erase_tails(alloc: Global, all: &Vec<Tail>) -> Result<Vec<Tail>, AllocError>
+    ensures { IfOk result (λ x. tails_of x.items ≡ erased.tails (tails_of all.now.items)) }
+{
+    let mut found = Vec::new(alloc);
+    for tail in all {
+        let operand = erase_operand(alloc, &tail.operand)?;
+        found.push(Tail {
+            operator: tail.operator,
+            operand,
+        })?;
+    }
+    Ok(found)
+}
+
+/// The pieces of a string (ECMA-408, 16.5.1 String Interpolation).
+#[cycle(erase)]
+pub fn erase_pieces(alloc: Global, all: &Vec<StringPiece>) -> Result<Vec<StringPiece>, AllocError>
+    ensures { IfOk result (λ x. pieces_of x.items ≡ erased.pieces (pieces_of all.now.items)) }
+{
+    let mut found = Vec::new(alloc);
+    for piece in all {
+        let text = copy_bytes(alloc, &piece.text)?;
+        let value = erase_value(alloc, &piece.value)?;
+        found.push(StringPiece {
+            kind: piece.kind,
+            place: piece.place,
+            text,
+            value,
+        })?;
+    }
+    Ok(found)
+}
+
+/// `.a[b](c)`
+#[cycle(erase)]
+pub fn erase_selectors(alloc: Global, all: &Vec<Selector>) -> Result<Vec<Selector>, AllocError>
+    ensures { IfOk result (λ x. selectors_of x.items ≡ erased.selectors (selectors_of all.now.items)) }
+{
+    let mut found = Vec::new(alloc);
+    for selector in all {
+        let selector = erase_selector(alloc, selector)?;
+        found.push(selector)?;
+    }
+    Ok(found)
+}
+
+/// `..a = b..c()`
+#[cycle(erase)]
+pub fn erase_cascades(alloc: Global, all: &Vec<Cascade>) -> Result<Vec<Cascade>, AllocError>
+    ensures { IfOk result (λ x. cascades_of x.items ≡ erased.cascades (cascades_of all.now.items)) }
+{
+    let mut found = Vec::new(alloc);
+    for cascade in all {
+        let selectors = erase_selectors(alloc, &cascade.selectors)?;
+        let value = erase_value(alloc, &cascade.value)?;
+        found.push(Cascade {
+            dots: cascade.dots,
+            selectors,
+            value,
+        })?;
+    }
+    Ok(found)
+}
+
+/// Arguments, elements of a list literal or updates of a `for`.
+#[cycle(erase)]
+pub fn erase_items(alloc: Global, all: &Vec<Item>) -> Result<Vec<Item>, AllocError>
+    ensures { IfOk result (λ x. items_of x.items ≡ erased.items (items_of all.now.items)) }
+{
+    let mut found = Vec::new(alloc);
+    for item in all {
+        let label = copy_maybe_label(alloc, &item.label)?;
+        let value = erase_expr(alloc, &item.value)?;
+        found.push(Item {
+            comma: item.comma,
+            label,
+            value,
+        })?;
+    }
+    Ok(found)
+}
+
+/// The entries of a map literal (ECMA-408, 16.8 Maps).
+#[cycle(erase)]
+pub fn erase_entries(alloc: Global, all: &Vec<Entry>) -> Result<Vec<Entry>, AllocError>
+    ensures { IfOk result (λ x. entries_of x.items ≡ erased.entries (entries_of all.now.items)) }
+{
+    let mut found = Vec::new(alloc);
+    for entry in all {
+        let key = erase_expr(alloc, &entry.key)?;
+        let value = erase_expr(alloc, &entry.value)?;
+        found.push(Entry {
+            comma: entry.comma,
+            key,
+            colon: entry.colon,
+            value,
+        })?;
+    }
+    Ok(found)
+}
