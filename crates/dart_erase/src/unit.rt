@@ -72,10 +72,10 @@ fn erase_directives(alloc: Global, all: &Vec<Directive>) -> Result<Vec<Directive
 /// The unit without the annotations that change nothing in production mode (ECMA-408, 19 Types).
 ///
 /// These are the types of variables and parameters, what a parameter takes that is a function, and the results of
-/// functions, accessors, operators and aliases. Bounds, supertypes, metadata, type arguments and the types after `new`,
-/// `is`, `as` and `on` stay. What stays keeps its place, and where no word would be left before a variable, `var` stands
-/// at the place of its name. The only failure is want of memory. The unit is only read, so it is the same after either
-/// answer.
+/// functions, accessors, operators and aliases. Bounds, supertypes, metadata, the type arguments of literals and the types
+/// after `new`, `is`, `as` and `on` stay. What stays keeps its place, and where no word would be left before a variable,
+/// `var` stands at the place of its name. The only failure is want of memory. The unit is only read, so it is the same
+/// after either answer.
 pub fn erase(alloc: Global, unit: &Unit) -> Result<Unit, AllocError>
     ensures { IfOk result (λ x. unit_view.unit x ≡ unit_erased.unit (unit_view.unit unit.now)) }
 {

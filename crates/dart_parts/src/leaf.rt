@@ -67,7 +67,7 @@ pub fn copy_maybe_dot_name(
     }
 }
 
-/// `a:` (ECMA-408, 17.3 Labels)
+/// `a:` (ECMA-408, 17.13 Labels)
 pub fn copy_label(alloc: Global, label: &Label) -> Result<Label, AllocError>
     ensures { IfOk result (λ x. x ≡ label.now) }
 {
@@ -132,7 +132,7 @@ pub fn copy_dot_names(alloc: Global, names: &Vec<DotName>) -> Result<Vec<DotName
     Ok(found)
 }
 
-/// `a: b:` (ECMA-408, 17.3 Labels)
+/// `a: b:` (ECMA-408, 17.13 Labels)
 pub fn copy_labels(alloc: Global, labels: &Vec<Label>) -> Result<Vec<Label>, AllocError>
     ensures { IfOk result (λ x. x.items ≡ labels.now.items) }
 {

@@ -113,7 +113,7 @@ mutual
   shallow_parameters (t.the_parameters opening required brackets optional closing) = up (mono (shallow_parameter_list required) (shallow_parameter_list optional))
 
   pub shallow_parameter : (x : t.Parameter) → d.parameter (erased.parameter x) ≤ d.parameter x
-  shallow_parameter (t.the_parameter comma metadata0 kind0 value0) = up (mono (shallow_metadata metadata0) (mono (shallow_parameter_kind kind0) (shallow_value value0)))
+  shallow_parameter (t.the_parameter comma metadata0 kind0 value0) = mono (up (mono (shallow_metadata metadata0) (shallow_parameter_kind kind0))) (shallow_value value0)
 
   pub shallow_annotation : (x : t.Annotation) → d.annotation (erased.annotation x) ≤ d.annotation x
   shallow_annotation (t.the_annotation at name0 more call items0) = call_up call (shallow_items items0)

@@ -121,8 +121,9 @@ unfoldable mutual
   pub parameters : t.Parameters → ℕ
   parameters (t.the_parameters opening required brackets optional closing) = suc (max (parameter_list required) (parameter_list optional))
 
+  -- a default stands beside its parameter, and not inside it
   pub parameter : t.Parameter → ℕ
-  parameter (t.the_parameter comma metadata0 kind0 value0) = suc (max (metadata metadata0) (max (parameter_kind kind0) (value value0)))
+  parameter (t.the_parameter comma metadata0 kind0 value0) = max (suc (max (metadata metadata0) (parameter_kind kind0))) (value value0)
 
   pub annotation : t.Annotation → ℕ
   annotation (t.the_annotation at name0 more call items0) = call_height call (items items0)

@@ -10,7 +10,5 @@ pub mod UnitView
 pub mod UnitTokens
 pub mod Depth
 pub mod Levels
-pub mod Well
 pub mod UnitErased
 pub mod Thinned
-pub mod UnitWell

@@ -156,7 +156,7 @@ pub struct StringPiece {
     pub value: Value,
 }
 
-/// A selector (ECMA-408, 16.13 to 16.18).
+/// A selector (ECMA-408, 16.14 to 16.18).
 #[cycle(tree)]
 pub enum Selector {
     /// `.a`, or `a` directly behind the `..` of a cascade

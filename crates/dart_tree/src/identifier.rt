@@ -29,7 +29,7 @@ pub struct CommaName {
     pub name: Identifier,
 }
 
-/// `a:`, as before a statement (ECMA-408, 17.3 Labels) or a named argument.
+/// `a:`, as before a statement (ECMA-408, 17.13 Labels) or a named argument.
 #[derive(Drop)]
 pub struct Label {
     pub name: Identifier,

@@ -2,12 +2,12 @@
 ghost use Rattle.std.specs.Prelude.{◌≡◌, ◌≤◌};
 ghost use Rattle.dart_tree.specs.Depth.{unit_height};
 ghost use Rattle.dart_tree.specs.Erased as erased;
+ghost use Rattle.dart_tree.specs.Levels.{binds, is_target};
 ghost use Rattle.dart_tree.specs.Tree.{Operand};
 ghost use Rattle.dart_tree.specs.Thinned.{Thinned};
 ghost use Rattle.dart_tree.specs.Unit.{UnitTree};
 ghost use Rattle.dart_tree.specs.UnitErased as of_unit;
 ghost use Rattle.dart_tree.specs.UnitTokens.{unit_tokens};
-ghost use Rattle.dart_tree.specs.Well.{binds, is_target};
 
 /// A unit that is erased twice is the unit that is erased once.
 pub fn erased_once()

@@ -1,4 +1,4 @@
-// The trees of units, a type for each production, with what their tokens, their depth and their erasure are.
+// The trees of units, with what their tokens, their depth and their erasure are.
 #![tactic(auto)]
 
 pub mod declaration;

@@ -17,7 +17,7 @@ pub struct Block {
 /// A statement (ECMA-408, 17 Statements).
 #[cycle(tree)]
 pub enum Stmt {
-    /// `a: b;` (17.3 Labels)
+    /// `a: b;` (17.13 Labels)
     Labelled(Label, Box<Stmt>),
     /// `{ a; }`
     Block(Block),
