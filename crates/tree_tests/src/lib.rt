@@ -1,4 +1,4 @@
-// The trees of sources of one line, built by hand, whose tests say what tokens they have before and after erasure.
+// The trees of short sources, built by hand, whose tests say what tokens they have before and after erasure.
 #![tactic(auto)]
 
 pub mod classes;
@@ -6,6 +6,7 @@ pub mod declaration;
 pub mod expression;
 pub mod functions;
 pub mod leaf;
+pub mod lines;
 #[cfg(test)]
 mod tests;
 pub mod variables;

@@ -1,6 +1,7 @@
 // The tokens of the trees, before and after erasure.
 use crate::classes::{class_of_typed_members, class_that_keeps_its_types};
 use crate::functions::{function_and_getter, function_of_a_function, function_of_statements};
+use crate::lines::main_of_five_lines;
 use crate::variables::{list_and_map, typed_variable_and_function};
 use dart_base::bytes::Bytes;
 use dart_erase::unit::erase;
@@ -45,6 +46,34 @@ fn check_tokens(
     let text = String::from_utf8(joined(alloc, &all)?.into_vec())?;
     assert_eq!(rt; text.as_str(), line);
     assert_eq!(rt; columns(rt, alloc, &all)?.as_slice(), places, "in {line}");
+    Ok(())
+}
+
+// The lines and columns of tokens.
+fn lines_and_columns(alloc: Global, tokens: &Vec<Token>) -> Result<Vec<(u32, u32)>, AllocError> {
+    let mut found = Vec::new(alloc);
+    for token in tokens {
+        found.push((token.place.line, token.place.column))?;
+    }
+    Ok(found)
+}
+
+// Ends the process unless these are the unit's tokens, each on its line.
+fn check_lines(
+    rt: &impl Abort,
+    alloc: Global,
+    unit: &Unit,
+    text: &str,
+    places: &[(u32, u32)],
+) -> Result<(), Fail> {
+    let all = tokens(alloc, unit)?;
+    let found = String::from_utf8(joined(alloc, &all)?.into_vec())?;
+    assert_eq!(rt; found.as_str(), text);
+    assert_eq!(rt;
+        lines_and_columns(alloc, &all)?.as_slice(),
+        places,
+        "in {text}"
+    );
     Ok(())
 }
 
@@ -182,6 +211,75 @@ fn metadata_stays_where_a_type_goes(rt: HostRuntime) -> Result<(), Fail> {
         "f ( @ d x ) { final y = x ; for ( var i in y ) i ; }",
         &[
             1, 2, 3, 4, 10, 11, 13, 15, 28, 30, 32, 33, 35, 39, 44, 44, 46, 49, 50, 52, 53, 55,
+        ],
+    )
+}
+
+#[test]
+fn kept_tokens_keep_their_lines(rt: HostRuntime) -> Result<(), Fail> {
+    let alloc = rt.alloc();
+    let unit = main_of_five_lines(alloc)?;
+    check_lines(
+        &rt,
+        alloc,
+        &unit,
+        "main ( ) { Map < String , int > m = new Map < String , int > ( ) ; throw 'x' ; }",
+        &[
+            (1, 1),
+            (1, 5),
+            (1, 6),
+            (1, 8),
+            (2, 3),
+            (2, 6),
+            (2, 7),
+            (2, 13),
+            (3, 7),
+            (3, 10),
+            (3, 12),
+            (3, 14),
+            (3, 16),
+            (3, 20),
+            (3, 23),
+            (3, 24),
+            (3, 30),
+            (3, 32),
+            (3, 35),
+            (3, 36),
+            (3, 37),
+            (3, 38),
+            (4, 3),
+            (4, 9),
+            (4, 12),
+            (5, 1),
+        ],
+    )?;
+    check_lines(
+        &rt,
+        alloc,
+        &erase(alloc, &unit)?,
+        "main ( ) { var m = new Map < String , int > ( ) ; throw 'x' ; }",
+        &[
+            (1, 1),
+            (1, 5),
+            (1, 6),
+            (1, 8),
+            (3, 12),
+            (3, 12),
+            (3, 14),
+            (3, 16),
+            (3, 20),
+            (3, 23),
+            (3, 24),
+            (3, 30),
+            (3, 32),
+            (3, 35),
+            (3, 36),
+            (3, 37),
+            (3, 38),
+            (4, 3),
+            (4, 9),
+            (4, 12),
+            (5, 1),
         ],
     )
 }
