@@ -30,3 +30,11 @@ pub mod DeclarationsByHeight
 pub mod ConstructorsOrOthers
 pub mod MembersByHeight
 pub mod UnitsByHeight
+pub mod Growing
+pub mod GrowingTypes
+pub mod GrowingExpressions
+pub mod GrowingLevels
+pub mod GrowingStatements
+pub mod GrowingStages
+pub mod GrowingDeclarations
+pub mod GrowingUnits

@@ -1,3 +1,4 @@
 pub mod Heights
 pub mod Operators
 pub mod ByHeight
+pub mod Fronts

@@ -4,4 +4,5 @@
 
 pub mod depth;
 pub mod exact;
+pub mod front;
 pub mod operators;
