@@ -13,7 +13,7 @@ pub enum Quote {
     Double,
 }
 
-/// What a token is (ECMA-408, 20.2 Lexical Rules, 16.5 Strings and 16.33 Identifier Reference).
+/// What a token is (ECMA-408, 20.1 Lexical Rules, 16.5 Strings and 16.33 Identifier Reference).
 ///
 /// A string without interpolation is one `Whole`. One with interpolations is a `Head`, which ends in `${`, then the
 /// tokens of the first expression, for each further expression a `Middle` and its tokens, and a `Tail`. A `Middle` and

@@ -4,7 +4,7 @@ ghost use Rattle.dart_token.specs.declared.word.Word.{Word};
 ghost use Rattle.dart_token.specs.Lookup.{words_from, first_with, word_of};
 ghost use Rattle.dart_token.specs.Word.{word_text, is_reserved};
 
-/// A word of the language (ECMA-408, 16.1.1 Reserved Words and 16.33 Identifier Reference).
+/// A word of the language (ECMA-408, 20.1.1 Reserved Words and 16.33 Identifier Reference).
 ///
 /// Another one is also a line of `word_text` in specs/Word.antt and of
 /// `words_from` here and in specs/Lookup.antt.
