@@ -3,6 +3,7 @@
 
 mod declaration;
 mod leaf;
+mod list;
 mod tree;
 mod unit;
 
