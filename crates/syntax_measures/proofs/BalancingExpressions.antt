@@ -12,7 +12,7 @@ use Rattle.dart_tree.specs.declared.expression.PieceKind.{PieceKind}
 use Rattle.dart_tree.specs.declared.expression.PieceKind.TheVariants as pk
 use Rattle.dart_tree.specs.LeafTokens.{operator_tokens, atom_tokens, label_tokens, piece_token}
 use Rattle.dart_tree.specs.Tree as t
-use Rattle.dart_tree.specs.Tree.{Expr, Operand, Selector, Value, Body, Pieces, Selectors, Items}
+use Rattle.dart_tree.specs.Tree.{Expr}
 use Rattle.dart_tree.specs.Tokens.{expr_tokens, primary_tokens, selector_tokens, value_tokens, body_tokens, arguments_tokens, pieces_tokens, selectors_tokens, items_tokens, entries_tokens}
 use Rattle.dart_syntax.specs.Phrases.{Phrase}
 use Rattle.dart_syntax.specs.Leaves.{label, atom, piece, one_of}

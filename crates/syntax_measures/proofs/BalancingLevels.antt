@@ -6,7 +6,7 @@ use Rattle.dart_token.specs.declared.sign.Sign.TheVariants as s
 use Rattle.dart_token.specs.declared.word.Word.TheVariants as w
 use Rattle.dart_tree.specs.LeafTokens.{operator_tokens}
 use Rattle.dart_tree.specs.Tree as t
-use Rattle.dart_tree.specs.Tree.{Expr, Operand, Primary}
+use Rattle.dart_tree.specs.Tree.{Operand, Primary}
 use Rattle.dart_tree.specs.declared.operator.Operator.{Operator}
 use Rattle.dart_tree.specs.Tokens.{expr_tokens, operand_tokens, primary_tokens}
 use Rattle.dart_syntax.specs.Phrases.{Phrase, made, such}

@@ -8,7 +8,7 @@ use Rattle.dart_token.specs.declared.sign.Sign.TheVariants as s
 use Rattle.dart_token.specs.declared.word.Word.TheVariants as w
 use Rattle.dart_tree.specs.LeafTokens.{type_tokens, catch_tokens, on_text}
 use Rattle.dart_tree.specs.Tree as t
-use Rattle.dart_tree.specs.Tree.{Expr, Stmt, Block, SwitchParts, TryParts}
+use Rattle.dart_tree.specs.Tree.{Block}
 use Rattle.dart_tree.specs.Tokens.{expr_tokens, operand_tokens, primary_tokens, arguments_tokens, parameters_tokens, stmt_tokens, loop_tokens, block_tokens, items_tokens, variables_tokens, function_tokens, switch_parts_tokens, try_parts_tokens}
 use Rattle.dart_syntax.specs.Phrases.{made}
 use Rattle.dart_syntax.specs.Leaves.{sign_tokens, word, word_tokens, begins_with_no_brace}

@@ -12,13 +12,13 @@ use Rattle.dart_tree.specs.declared.parameter.BracketKind.TheVariants as b
 use Rattle.dart_tree.specs.LeafTokens.{left_of, right_of, catch_tokens, kind_tokens}
 use Rattle.dart_tree.specs.Types.{no_kind}
 use Rattle.dart_tree.specs.Tree as t
-use Rattle.dart_tree.specs.Tree.{Expr, Value, ParameterKind, Stmt, Body, Arguments, Parameters, Annotation, Variables, Function, Block, ParameterList, Metadata, SwitchParts, TryParts}
+use Rattle.dart_tree.specs.Tree.{Body, Parameters, ParameterList}
 use Rattle.dart_tree.specs.Tokens.{parameter_kind_tokens, body_tokens, parameters_tokens, annotation_tokens, variables_tokens, function_tokens, parameter_list_tokens, metadata_tokens}
 use Rattle.dart_syntax.specs.Phrases.{Phrase, either}
 use Rattle.dart_syntax.specs.Leaves.{sign_tokens, word_tokens, this_dot_tokens, comma_name_tokens, comma_name}
 use Rattle.dart_syntax.specs.Types.{without_kind, kind_leaves_name, kind_over, result_leaves_name}
 use Rattle.dart_syntax.specs.Expressions.{ExprNodes}
-use Rattle.dart_syntax.specs.Statements.{StmtNodes, to_metadata, to_annotation, to_required, to_optional, with_optional, metadata_of, this_dot, whole_body, body_of, parameter_over, required_over, optional_over, required_before, bracketed_over, parameters_over, variables_over, function_over, local_function_over, catch_over}
+use Rattle.dart_syntax.specs.Statements.{StmtNodes, to_metadata, to_annotation, to_required, to_optional, with_optional, metadata_of, this_dot, whole_body, parameter_over, required_over, optional_over, required_before, bracketed_over, parameters_over, variables_over, function_over, local_function_over, catch_over}
 use Rattle.dart_syntax.proofs.AgreeingExpressions.{said_sign}
 use Rattle.dart_syntax.proofs.AgreeingStatements.{said_word, said_metadata, said_annotation, said_required, said_optional, said_variables}
 use Rattle.dart_syntax.specs.Agreement.{bare_parameter_tokens}
@@ -46,10 +46,6 @@ module _ {here : ExprNodes} (H : ExprsBalance here) where
   pub whole_body_balances : Balances body_tokens (whole_body here)
   unfolding body_tokens
   whole_body_balances = either_balances (made_balances body_tokens _ (seq_balances (sign_balances s.Arrow refl) (seq_balances H.expr (sign_balances s.Semicolon refl))) (λ x fits. refl)) (made_balances body_tokens t.block_body H.block (λ x fits. refl))
-
-  pub body_balances : Balances body_tokens (body_of here)
-  unfolding body_tokens
-  body_balances = either_balances whole_body_balances (made_balances body_tokens t.no_body (sign_balances s.Semicolon refl) (λ x fits. refl))
 
 plain_left : (kind : BracketKind) → is_plain (sign_class (left_of kind)) ≡ true
 plain_left b.Square = refl

@@ -7,7 +7,7 @@ use Rattle.dart_token.specs.declared.sign.Sign.TheVariants as s
 use Rattle.dart_tree.specs.declared.parameter.BracketKind.{BracketKind}
 use Rattle.dart_tree.specs.declared.parameter.BracketKind.TheVariants as b
 use Rattle.dart_tree.specs.Tree as t
-use Rattle.dart_tree.specs.Tree.{Arguments, Parameters}
+use Rattle.dart_tree.specs.Tree.{Arguments}
 use Rattle.dart_tree.specs.Tokens.{arguments_tokens, parameters_tokens, parameter_list_tokens}
 use Rattle.dart_syntax.specs.Phrases.{Phrase, seq, either, made}
 use Rattle.dart_syntax.specs.Leaves.{sign, sign_tokens}

@@ -8,7 +8,7 @@ use Rattle.dart_token.specs.declared.word.Word.TheVariants as w
 use Rattle.dart_tree.specs.declared.operator.Operator.{Operator}
 use Rattle.dart_tree.specs.LeafTokens.{sign_at, word_at, maybe_sign, operator_tokens, type_tokens}
 use Rattle.dart_tree.specs.Tree as t
-use Rattle.dart_tree.specs.Tree.{Expr, Operand, Primary, Selector, Selectors, Value}
+use Rattle.dart_tree.specs.Tree.{Operand, Primary, Selector, Selectors, Value}
 use Rattle.dart_tree.specs.Tokens.{expr_tokens, primary_tokens, operand_tokens, selector_tokens, selectors_tokens, value_tokens, arguments_tokens, tails_tokens, cascades_tokens}
 use Rattle.dart_syntax.specs.Phrases.{Phrase, many, either, made, such}
 use Rattle.dart_syntax.specs.Leaves.{one_of, word}

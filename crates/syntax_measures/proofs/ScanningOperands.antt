@@ -14,11 +14,11 @@ use Rattle.dart_tree.specs.declared.expression.PieceKind.TheVariants as pk
 use Rattle.dart_tree.specs.LeafTokens.{sign_at, maybe_sign, maybe_dot_name, type_tokens, type_arguments_tokens, type_list_tokens, opening_bracket, closing_bracket, identifier_tokens, atom_tokens, operator_tokens}
 use Rattle.dart_tree.specs.Types.{TypeArguments, no_types, listed_types}
 use Rattle.dart_tree.specs.Tree as t
-use Rattle.dart_tree.specs.Tree.{Expr, Operand, Primary, Selector, Pieces, Selectors, Arguments, Parameters}
+use Rattle.dart_tree.specs.Tree.{Expr, Operand, Selector, Pieces, Arguments, Parameters}
 use Rattle.dart_tree.specs.Tokens.{expr_tokens, items_tokens, primary_tokens, operand_tokens, selector_tokens, selectors_tokens, arguments_tokens, parameters_tokens, pieces_tokens, tails_tokens, entries_tokens, body_tokens, value_tokens, parameter_list_tokens}
 use Rattle.dart_syntax.specs.Phrases.{Phrase, many, some, either}
 use Rattle.dart_syntax.specs.Leaves.{one_of}
-use Rattle.dart_syntax.specs.Expressions.{ExprNodes, to_selectors, append_pieces, joined, join_pieces, middles, one_string, strings, literal_over, selector_of, primary_of, prefixed, once, chain, shifting}
+use Rattle.dart_syntax.specs.Expressions.{ExprNodes, to_selectors, append_pieces, joined, join_pieces, middles, one_string, strings, literal_over, selector_of, primary_of, prefixed, chain, shifting}
 use Rattle.syntax_measures.proofs.Scanning.{State, Class, name, declaring, dot, less, greater, left, other, begun, named, compared, second, called, free, step, scan, scan_append, free_stays, sign_class}
 use Rattle.syntax_measures.proofs.Calling.{Calls}
 
@@ -199,10 +199,6 @@ module _ {from : State} {End : State → Type 0} (E : Entry from End) where
       ∙ free_stays (operand_tokens x.1))) E.free_end)
 
   module _ {first : Phrase Operand} {operator : Phrase Operator} (F : Scans from End operand_tokens first) (O : Frees End operator) (operand : Phrase Operand) where
-    pub once_scans : Scans from End operand_tokens (once first operator operand)
-    unfolding operand_tokens tails_tokens
-    once_scans = made_scans operand_tokens (λ x fits. behind first operator F O x.0 x.1.0 _ fits.0 fits.1.0)
-
     pub chain_scans : Scans from End operand_tokens (chain first operator operand)
     unfolding operand_tokens tails_tokens
     chain_scans = made_scans operand_tokens (λ x fits. behind first operator F O x.0 x.1.0.0 _ fits.0 fits.1.0.0)

@@ -11,7 +11,7 @@ use Rattle.dart_tree.specs.Tree as t
 use Rattle.dart_tree.specs.Tree.{Expr, Stmt, Block, SwitchParts, TryParts}
 use Rattle.dart_tree.specs.Tokens.{operand_tokens, stmt_tokens, loop_tokens, block_tokens, switch_parts_tokens, try_parts_tokens}
 use Rattle.dart_tree.specs.Depth as height
-use Rattle.dart_tree.specs.Depth.{catch_height, try_kind_height}
+use Rattle.dart_tree.specs.Depth.{catch_height}
 use Rattle.dart_syntax.specs.Phrases.{Phrase, seq, opt, many, some, either, perhaps, made}
 use Rattle.dart_syntax.specs.Leaves.{sign, word, label, begins_with_no_brace}
 use Rattle.dart_syntax.specs.Expressions.{plain_list}

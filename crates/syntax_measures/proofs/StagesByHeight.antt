@@ -10,7 +10,7 @@ use Rattle.dart_tree.specs.Tree as t
 use Rattle.dart_tree.specs.Tree.{Expr, Operand, Primary, Stmt, Loop, Arguments, Parameters, Variables, Function, Block, SwitchParts, TryParts}
 use Rattle.dart_tree.specs.Tokens.{operand_tokens, stmt_tokens, loop_tokens, block_tokens, switch_parts_tokens, try_parts_tokens}
 use Rattle.dart_tree.specs.Depth as height
-use Rattle.dart_tree.specs.Depth.{type_height, catch_height}
+use Rattle.dart_tree.specs.Depth.{catch_height}
 use Rattle.dart_syntax.specs.Phrases.{Phrase, seq, opt, many, either, perhaps, made}
 use Rattle.dart_syntax.specs.Leaves.{sign, word, label}
 use Rattle.dart_syntax.specs.Expressions.{ExprNodes, maybe_expr, plain_list, literal_over}

@@ -9,7 +9,7 @@ use Rattle.dart_tree.specs.declared.parameter.BracketKind.{BracketKind}
 use Rattle.dart_tree.specs.declared.parameter.BracketKind.TheVariants as b
 use Rattle.dart_tree.specs.Types.{ResultType}
 use Rattle.dart_tree.specs.Tree as t
-use Rattle.dart_tree.specs.Tree.{Value, ParameterKind, Body, Arguments, Annotation, ParameterList, Metadata}
+use Rattle.dart_tree.specs.Tree.{Value, ParameterKind, Body, Arguments, Annotation, Metadata}
 use Rattle.dart_tree.specs.Tokens.{parameter_kind_tokens, body_tokens, parameters_tokens, annotation_tokens, variables_tokens, function_tokens, parameter_list_tokens, metadata_tokens}
 use Rattle.dart_tree.specs.Depth as height
 use Rattle.dart_tree.specs.Depth.{result_height, kind_height}
