@@ -1,6 +1,6 @@
 // The tokens of expressions and statements.
 ghost use Rattle.std.specs.Prelude.{◌≡◌, [], ◌∷◌, ◌++◌, OnOk};
-ghost use Rattle.dart_tree.specs.LeafTokens.{sign_at, word_at};
+ghost use Rattle.dart_tree.specs.LeafTokens.{sign_at};
 ghost use Rattle.dart_token.specs.declared.sign.Sign.TheVariants as sg;
 ghost use Rattle.dart_tree.specs.Lists.{block_of, items_of};
 ghost use Rattle.dart_tree.specs.Tokens.{annotation_tokens, arguments_tokens, block_tokens, body_tokens, expr_tokens, function_tokens, items_tokens, loop_tokens, operand_tokens, parameter_kind_tokens, parameter_tokens, parameters_tokens, primary_tokens, selector_tokens, stmt_tokens, value_tokens, variables_tokens};
