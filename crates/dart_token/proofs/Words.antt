@@ -86,6 +86,15 @@ pub found_none : (text : List ℕ) (r : Option Word) → r ≡ word_of text → 
 found_none text None e = λ word h. let f : word_of text ≡ Some word = found_by_text word text h in absurd cc
 found_none text (Some word) e = tt
 
+none_found : (text : List ℕ) (r : Option Word) → ((word : Word) → ¬ (word_text word ≡ text)) → r ≡ word_of text → r ≡ None
+none_found text None none e = refl
+none_found text (Some word) none e = absurd (none word (found_text word text (sym e)))
+
+-- an answer that is right is the word that is looked up
+pub found_only : (text : List ℕ) (r : Option Word) → IfSome r (λ word. word_text word ≡ text) → IfNone r ((word : Word) → ¬ (word_text word ≡ text)) → r ≡ word_of text
+found_only text (Some word) some none = sym (found_by_text word text some)
+found_only text None some none = sym (none_found text (word_of text) none refl)
+
 pub begun : (text : List ℕ) (words : List Word) (r : Option Word) → 0 < length text → words ≡ words_from (get_or text 0 0) → r ≡ first_with words text → r ≡ word_of text
 begun [] words r lt e f = absurd (omega arith)
 begun (b ∷ bytes) words r lt e f = f ∙ ap (λ ws. first_with ws (b ∷ bytes)) e

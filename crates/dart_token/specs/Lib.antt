@@ -1,3 +1,4 @@
-pub mod Lookup
 pub mod Sign
 pub mod Word
+-- means of proof
+pub mod Lookup

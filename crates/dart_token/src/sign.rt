@@ -5,7 +5,7 @@ ghost use Rattle.dart_token.specs.Sign.{sign_text};
 /// A sign of the language: brackets, separators and operators.
 ///
 /// `>>` and `>>=` are no signs: they are written as `>` and a following `>` or `>=`. Another sign is also a line of
-/// `sign_text` in specs/Sign.antt.
+/// `text`, of `sign_text` in specs/Sign.antt, and of the tables of marks in dart_pieces.
 #[derive(Clone, Copy, Debug, PartialEq, Eq)]
 pub enum Sign {
     /// `(`

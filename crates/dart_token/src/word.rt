@@ -1,13 +1,14 @@
 // The words of the language: the reserved words and the built-in identifiers.
-ghost use Rattle.std.specs.Prelude.{◌≡◌, ◌↔◌, IsTrue, IfSome, IfNone, slice_index};
+ghost use Rattle.std.specs.Prelude.{◌≡◌, IfSome, IfNone};
 ghost use Rattle.dart_token.specs.declared.word.Word.{Word};
-ghost use Rattle.dart_token.specs.Lookup.{words_from, first_with, word_of};
+ghost use Rattle.dart_token.specs.Lookup.{words_from, first_with};
 ghost use Rattle.dart_token.specs.Word.{word_text, is_reserved};
 
 /// A word of the language (ECMA-408, 20.1.1 Reserved Words and 16.33 Identifier Reference).
 ///
-/// Another one is also a line of `word_text` in specs/Word.antt and of
-/// `words_from` here and in specs/Lookup.antt.
+/// Another one is also a line of `text` and of `words_from`, of `word_text` in specs/Word.antt, of `words_from` in
+/// specs/Lookup.antt and of `word_found` in proofs/Words.antt; a built-in identifier also one of `is_reserved` here
+/// and in specs/Word.antt.
 #[derive(Clone, Copy, Debug, PartialEq, Eq)]
 pub enum Word {
     Assert,
@@ -148,7 +149,6 @@ impl Word {
     pub fn of(text: &[u8]) -> Option<Word>
         ensures some { IfSome result (λ word. word_text word ≡ text.now) }
         ensures none { IfNone result ((word : Word) → ¬ (word_text word ≡ text.now)) }
-        ensures value { result ≡ word_of text.now }
     {
         match text {
             [first, ..] => first_with(words_from(*first), text),
