@@ -1,9 +1,10 @@
 -- The keys of the table of names, and the texts that contracts see.
-use Rattle.std.proofs.Common.{◌≡◌, ℕ, zero, suc, Bool, true, false, cond, ◌||◌, true≢false, List, [], ◌∷◌, ◌++◌, map, slice_get, Contains, Some, is_some, String, string_bytes, string_eq, bytes_eq, refl, sym, ap, subst, ◌∙◌, if◌then◌else◌, find}
+use Rattle.std.proofs.Common.{◌≡◌, ℕ, zero, suc, ◌+◌, ◌<◌, take, get_or, add-one, arith, Bool, true, false, cond, ◌||◌, true≢false, List, [], ◌∷◌, ◌++◌, map, slice_get, Contains, Some, is_some, String, string_bytes, string_eq, bytes_eq, refl, sym, ap, subst, ◌∙◌, if◌then◌else◌, find}
 use Rattle.std.specs.Option.{option_map}
 use Rattle.std.specs.List.{list_any, AllByRecursion, IsDistinct}
 use Rattle.std.specs.Cmp.Lexicographic.{bytes_decides, nat_list_eq_equiv}
 use Rattle.std.proofs.lemmas.Map.Views.{list_any-from_Contains}
+use Rattle.std.proofs.Math.Seq.{take-suc}
 use Rattle.indexmap.specs.IndexSet.{insert_key}
 use Rattle.std.proofs.lemmas.Option.{same_Some, slice_get-map, slice_get_within, get_or_from_slice_get}
 use Rattle.dart_base.specs.Names.{AreDistinct, interned}
@@ -77,3 +78,32 @@ Contains-at texts i text at = (i, slice_get_within texts i text at, get_or_from_
 -- a text that the table lacks is not in the list
 pub lacks : (texts : List (List ℕ)) (text : List ℕ) → list_any (bytes_eq text) texts ≡ false → Contains texts text → ⊥
 lacks texts text none there = true≢false (sym (list_any-from_Contains nat_list_eq_equiv text texts there) ∙ none)
+
+-- what is among the first n texts is a text with a lesser number
+taken : (n : ℕ) (texts : List (List ℕ)) (j : ℕ) (text : List ℕ) → slice_get (take n texts) j ≡ Some text → (slice_get texts j ≡ Some text) × (j < n)
+taken zero texts j text h = absurd (true≢false (sym (ap is_some h)))
+taken (suc n) [] j text h = absurd (true≢false (sym (ap is_some h)))
+taken (suc n) (x ∷ xs) zero text h = (h, omega arith)
+taken (suc n) (x ∷ xs) (suc j) text h = let r = taken n xs j text h in (r.0, omega arith)
+
+-- a text without a number is none of the list
+absent : (text : List ℕ) (texts : List (List ℕ)) → ((j : ℕ) → slice_get texts j ≡ Some text → ⊥) → list_any (bytes_eq text) texts ≡ false
+absent text [] h = refl
+absent text (x ∷ xs) h = by (bytes_eq text x) refl (absent text xs (λ j. h (suc j)))
+  where
+    by : (b : Bool) → bytes_eq text x ≡ b → list_any (bytes_eq text) xs ≡ false → list_any (bytes_eq text) (x ∷ xs) ≡ false
+    by true e rest = absurd (h zero (ap Some (sym ((bytes_decides text x).0 e))))
+    by false e rest = ap (λ b. b || list_any (bytes_eq text) xs) e ∙ rest
+
+-- the first texts of a table with one more is a table with one more name
+pub interned-next : (texts : List (List ℕ)) (n : ℕ) (text : List ℕ) → AreDistinct texts → slice_get texts n ≡ Some text
+    → interned (take n texts) text ≡ take (n + 1) texts
+interned-next texts n text distinct at =
+    ap (λ b. if b then take n texts else take n texts ++ text ∷ []) (absent text (take n texts) earlier)
+    ∙ sym (ap (λ k. take k texts) (add-one n) ∙ take-suc texts n text (slice_get_within texts n text at) ∙ ap (λ z. take n texts ++ z ∷ []) (get_or_from_slice_get texts n text text at))
+  where
+    earlier : (j : ℕ) → slice_get (take n texts) j ≡ Some text → ⊥
+    earlier j a =
+        let r = taken n texts j text a in
+        let same : j ≡ n = distinct j n text r.0 at in
+        absurd (omega arith)

@@ -1,4 +1,5 @@
-// What every crate speaks of: places in units, bytes, names, limits, and the features that the profile leaves out.
+// What every crate speaks of: places in units, bytes, units of text, names, limits, and the features that the profile
+// leaves out.
 #![tactic(auto)]
 
 pub mod bytes;
@@ -7,3 +8,4 @@ pub mod limit;
 pub mod name;
 pub mod names;
 pub mod place;
+pub mod units;

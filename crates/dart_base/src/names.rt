@@ -75,4 +75,15 @@ impl Names {
         let (index, _) = self.texts.get_full(text)?;
         Some(Name(index as u32))
     }
+
+    /// An equal table.
+    pub fn try_clone(&self, alloc: Global) -> Result<Self, AllocError>
+        ensures { IfOk result (λ copy. copy ≡ self.now) }
+    {
+        let mut copy = Names::new(alloc);
+        for number in 0..self.count() {
+            copy.intern(self.text(Name(number)))?;
+        }
+        Ok(copy)
+    }
 }
