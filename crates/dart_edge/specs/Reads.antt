@@ -12,4 +12,5 @@ read_failed (Err Failed) = true
 
 -- If the files are told, the answer is what they have under the name.
 abbrev pub ReadsFile : Option Files → List ℕ → Result (Option (List ℕ)) SourceFault → Type 0
-ReadsFile told name result = IfSome told (λ files. IfOk result (λ found. found ≡ file_of files name))
+ReadsFile told name result =
+    IfSome told (λ files. IfOk result (λ found. found ≡ file_of files name))

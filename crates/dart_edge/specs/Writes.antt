@@ -21,10 +21,11 @@ write_failed (Ok count) piece = (count == 0) && nat_lt 0 (length piece)
 write_failed (Err Memory) piece = false
 write_failed (Err Failed) piece = true
 
--- the list begins with this front
-abbrev pub IsFront : List ℕ → List ℕ → Type 0
-IsFront front whole = (rest : List ℕ) × (whole ≡ front ++ rest)
+-- the list begins with this prefix
+abbrev pub IsPrefix : List ℕ → List ℕ → Type 0
+IsPrefix prefix whole = (rest : List ℕ) × (whole ≡ prefix ++ rest)
 
--- What was written grew by a front of the text.
-abbrev pub WroteFront : Option (List ℕ) → Option (List ℕ) → List ℕ → Type 0
-WroteFront before after text = (front : List ℕ) × IsFront front text × (after ≡ append_known before front)
+-- What was written grew by a prefix of the text.
+abbrev pub WrotePrefix : Option (List ℕ) → Option (List ℕ) → List ℕ → Type 0
+WrotePrefix before after text = (prefix : List ℕ) × IsPrefix prefix text
+    × (after ≡ append_known before prefix)

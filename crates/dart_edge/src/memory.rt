@@ -66,7 +66,7 @@ impl Calls {
     }
 }
 
-/// Files in memory whose reads never fail but for want of memory.
+/// Files in memory, whose reads fail only where memory runs out.
 #[derive(Drop)]
 pub struct NoFaultSources {
     alloc: Global,
@@ -133,7 +133,8 @@ impl Sources for MemSources {
         ensures cause { Counts (read_failed result) (mem_faults self.old) (mem_faults self.new) }
 
         // The listed calls fail, and no other one does.
-        ensures listed { IsErrOf result SourceFault.Failed ↔ Contains (mem_fail self.old) (mem_calls self.old) }
+        ensures listed { IsErrOf result SourceFault.Failed
+            ↔ Contains (mem_fail self.old) (mem_calls self.old) }
         ensures fail { mem_fail self.new ≡ mem_fail self.old }
         ensures calls { mem_calls self.new ≡ min (mem_calls self.old + 1) (2 ^ 64 - 1) }
     {
@@ -144,7 +145,7 @@ impl Sources for MemSources {
     }
 }
 
-/// A sink in memory that takes whole pieces and never fails but for want of memory.
+/// A sink in memory that takes whole pieces and fails only where memory runs out.
 #[derive(Drop)]
 pub struct NoFaultSink {
     written: Bytes,
@@ -178,7 +179,8 @@ impl Sink for NoFaultSink {
 
     fn write(&mut self, piece: &[u8]) -> Result<usize, SinkFault>
         ensures bound { IfOk result (λ count. count ≤ length piece.now) }
-        ensures content { Some (safe_written self.new) ≡ append_known (Some (safe_written self.old)) (taken result piece.now) }
+        ensures content { Some (safe_written self.new)
+            ≡ append_known (Some (safe_written self.old)) (taken result piece.now) }
         ensures cause { Counts (write_failed result piece.now) 0 0 }
 
         ensures takes { IfOk result (λ count. count ≡ length piece.now) }
@@ -233,11 +235,13 @@ impl Sink for MemSink {
 
     fn write(&mut self, piece: &[u8]) -> Result<usize, SinkFault>
         ensures bound { IfOk result (λ count. count ≤ length piece.now) }
-        ensures content { Some (sink_written self.new) ≡ append_known (Some (sink_written self.old)) (taken result piece.now) }
+        ensures content { Some (sink_written self.new)
+            ≡ append_known (Some (sink_written self.old)) (taken result piece.now) }
         ensures cause { Counts (write_failed result piece.now) (sink_faults self.old) (sink_faults self.new) }
 
         // The listed calls fail, and no other one does.
-        ensures listed { IsErrOf result SinkFault.Failed ↔ Contains (sink_fail self.old) (sink_calls self.old) }
+        ensures listed { IsErrOf result SinkFault.Failed
+            ↔ Contains (sink_fail self.old) (sink_calls self.old) }
         ensures takes { IfOk result (λ count. count ≡ min (sink_piece self.old) (length piece.now)) }
         ensures calls { sink_calls self.new ≡ min (sink_calls self.old + 1) (2 ^ 64 - 1) }
         ensures fail { sink_fail self.new ≡ sink_fail self.old }

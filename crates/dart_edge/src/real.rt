@@ -5,6 +5,7 @@ ghost use Rattle.std.specs.Io.KnownBytes.{Appends};
 use crate::sink::{Sink, SinkFault};
 use crate::source::{SourceFault, Sources};
 use dart_base::bytes::Bytes;
+use dart_base::limit::UNIT_BYTES;
 use std::alloc::Global;
 use std::fs::File;
 use std::io;
@@ -12,7 +13,7 @@ use std::io::{ErrorKind, Read, Write};
 use std::rt::Files;
 
 /// The most bytes that are read of a file: one more than a unit may have, so that a longer file is refused by its size.
-pub const MOST_BYTES: u64 = 64_000_001;
+pub const MOST_BYTES: u64 = UNIT_BYTES as u64 + 1;
 
 // The bytes that the reader has left, but at most so many of them.
 fn read_at_most<I: Read + Drop>(alloc: Global, reader: I, most: u64) -> io::Result<Bytes>
@@ -73,7 +74,8 @@ impl<R: Files> Sources for Folder<'_, R> {
 // Writes some of the piece, and hands on what the writer may keep back.
 pub(crate) fn write_through<W: Write>(writer: &mut W, piece: &[u8]) -> io::Result<usize>
     ensures bound { IfOk result (λ count. count ≤ length piece.now) }
-    ensures bytes { IfOk result (λ count. Appends (W.contents writer.old) (W.contents writer.new) (take count piece.now)) }
+    ensures bytes { IfOk result (λ count.
+        Appends (W.contents writer.old) (W.contents writer.new) (take count piece.now)) }
 {
     let count = writer.write(piece)?;
     writer.flush()?;

@@ -3,7 +3,7 @@ ghost use Rattle.std.specs.Prelude.{◌≡◌, ◌≤◌, ◌<◌, ℕ, List, ta
 ghost use Rattle.std.specs.Io.KnownBytes.{append_known};
 ghost use Rattle.dart_edge.specs.declared.sink.SinkFault.TheVariants.{Memory};
 ghost use Rattle.dart_edge.specs.Fault.{Counts};
-ghost use Rattle.dart_edge.specs.Writes.{taken, write_failed, sink_failed, WroteFront};
+ghost use Rattle.dart_edge.specs.Writes.{taken, write_failed, sink_failed, WrotePrefix};
 
 use std::alloc::AllocError;
 use thiserror::Error;
@@ -35,19 +35,20 @@ pub trait Sink {
     /// How often the sink has failed.
     ghost faults: { Self → ℕ };
 
-    /// Takes bytes from the front of the piece, and answers how many.
+    /// Takes a prefix of the piece, and answers how many bytes that is.
     fn write(&mut self, piece: &[u8]) -> Result<usize, SinkFault>
         ensures bound { IfOk result (λ count. count ≤ length piece.now) }
         ensures content { written self.new ≡ append_known (written self.old) (taken result piece.now) }
         ensures cause { Counts (write_failed result piece.now) (faults self.old) (faults self.new) };
 }
 
-// Takes bytes from the front of a piece that isn't empty. To take none counts as a fault.
+// Takes a prefix of a piece that isn't empty. To take none counts as a fault.
 fn write_some<K: Sink>(sink: &mut K, piece: &[u8]) -> Result<usize, SinkFault>
     requires { 0 < length piece.now }
     ensures some { IfOk result (λ count. 0 < count) }
     ensures bound { IfOk result (λ count. count ≤ length piece.now) }
-    ensures ok { IfOk result (λ count. K.written sink.new ≡ append_known (K.written sink.old) (take count piece.now)) }
+    ensures ok { IfOk result (λ count.
+        K.written sink.new ≡ append_known (K.written sink.old) (take count piece.now)) }
     ensures err { OnErr result (K.written sink.new ≡ K.written sink.old) }
     ensures cause { Counts (sink_failed result) (K.faults sink.old) (K.faults sink.new) }
 {
@@ -63,7 +64,7 @@ fn write_some<K: Sink>(sink: &mut K, piece: &[u8]) -> Result<usize, SinkFault>
 /// A call that takes nothing of what is left counts as a fault.
 pub fn write_whole<K: Sink>(sink: &mut K, piece: &[u8]) -> Result<(), SinkFault>
     ensures whole { OnOk result (K.written sink.new ≡ append_known (K.written sink.old) piece.now) }
-    ensures part { OnErr result (WroteFront (K.written sink.old) (K.written sink.new) piece.now) }
+    ensures part { OnErr result (WrotePrefix (K.written sink.old) (K.written sink.new) piece.now) }
     ensures cause { Counts (sink_failed result) (K.faults sink.old) (K.faults sink.new) }
 {
     let mut at = 0;
