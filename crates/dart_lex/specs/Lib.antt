@@ -1,2 +1,4 @@
-pub mod Faults
 pub mod Render
+pub mod Spelling
+-- means of proof
+pub mod Held

@@ -5,26 +5,21 @@ ghost use Rattle.dart_pieces.specs.Bytes.{is_line_end};
 ghost use Rattle.dart_pieces.specs.Cuts.{innermost, opened, begins_script, script_len};
 ghost use Rattle.dart_token.specs.declared.token.Token.{Token};
 ghost use Rattle.dart_lex.specs.declared.lexer.LexFault.TheVariants.{Memory};
-ghost use Rattle.dart_lex.specs.Faults.{after_byte, after, refusal_fault, fault_of, spelled, lines, start, IsHeld, HasRead, byte_limit, line_limit, weight_limit, Spells, HasReason};
+ghost use Rattle.dart_lex.specs.Held.{IsHeld, HasRead};
+ghost use Rattle.dart_lex.specs.Spelling.{after_byte, after, reason_fault, fault_of, spelled, lines, start, Spells, HasReason};
 
 use dart_base::bytes::Bytes;
 use dart_base::feature::Feature;
+use dart_base::limit::{UNIT_BYTES, UNIT_LINES, UNIT_WEIGHT};
 use dart_base::place::Place;
 use dart_pieces::cuts::{innermost, open_after, script_len};
 use dart_pieces::numbers::is_too_large;
-use dart_pieces::piece::{Piece, Refusal};
+use dart_pieces::piece::{LexReason, PieceClass};
 use dart_pieces::reader::next_piece;
 use dart_token::token::{Token, TokenKind};
 use std::alloc::{AllocError, AllocFailed, Global};
 use std::str::from_utf8;
 use thiserror::Error;
-
-/// The most bytes of a unit.
-const BYTE_LIMIT: usize = 64_000_000;
-/// The most lines of a unit.
-const LINE_LIMIT: usize = 1_000_000;
-/// The greatest weight of a unit: the sum of its tokens' lengths in bytes, each counted as at least 3.
-const WEIGHT_LIMIT: usize = 4_000_000;
 
 /// Why a text has no tokens.
 #[derive(Clone, Copy, Debug, PartialEq, Eq, Drop, Error)]
@@ -72,9 +67,10 @@ impl<T: Drop> From<AllocFailed<T>> for LexFault {
 /// its length in bytes, but at least 3.
 pub fn lex(alloc: Global, unit: u32, bytes: &[u8]) -> Result<Vec<Token>, LexFault>
     ensures tokens { IfOk result (λ tokens. Spells unit bytes.now tokens.items) }
-    ensures fault { IfErr result (λ fault. (fault ≡ LexFault.Memory) ⊎ HasReason unit bytes.now fault) }
+    ensures fault { IfErr result (λ fault.
+        (fault ≡ LexFault.Memory) ⊎ HasReason unit bytes.now fault) }
 {
-    if bytes.len() > BYTE_LIMIT {
+    if bytes.len() > UNIT_BYTES {
         return Err(LexFault::TooLarge);
     }
     let valid = valid_len(bytes);
@@ -100,9 +96,9 @@ fn valid_len(bytes: &[u8]) -> usize
 }
 
 fn exceeds_limits(lines: usize, weight: usize) -> bool
-    ensures { result ≡ (nat_lt line_limit lines || nat_lt weight_limit weight) }
+    ensures { result ≡ (nat_lt UNIT_LINES lines || nat_lt UNIT_WEIGHT weight) }
 {
-    lines > LINE_LIMIT || weight > WEIGHT_LIMIT
+    lines > UNIT_LINES || weight > UNIT_WEIGHT
 }
 
 // The tokens that were read and their weight; beyond the greatest weight the tokens are not kept.
@@ -118,20 +114,21 @@ impl Weighed {
         &mut self,
         alloc: Global,
         place: Place,
-        piece: Piece,
+        class: PieceClass,
         bytes: &[u8],
     ) -> Result<(), LexFault>
         requires { self.old.weight + length bytes.now + 3 < 2 ^ 64 }
-        ensures held { OnOk result ((found : List Token) → IsHeld found self.old.tokens.items self.old.weight
-            → IsHeld (found ++ spelled place piece bytes.now) self.new.tokens.items self.new.weight) }
+        ensures held { OnOk result ((found : List Token) →
+            IsHeld found self.old.tokens.items self.old.weight →
+            IsHeld (found ++ spelled place class bytes.now) self.new.tokens.items self.new.weight) }
         ensures grown { OnOk result (self.new.weight ≤ self.old.weight + length bytes.now + 3) }
         ensures memory { IfErr result (λ fault. fault ≡ LexFault.Memory) }
     {
-        let Piece::Lexeme(kind) = piece else {
+        let PieceClass::Lexeme(kind) = class else {
             return Ok(());
         };
         self.weight += bytes.len().max(3);
-        if self.weight <= WEIGHT_LIMIT {
+        if self.weight <= UNIT_WEIGHT {
             let lexeme = Bytes::from_slice(alloc, bytes)?;
             self.tokens.push(Token {
                 kind,
@@ -144,10 +141,11 @@ impl Weighed {
 }
 
 fn read_pieces(alloc: Global, unit: u32, bytes: &[u8]) -> Result<Weighed, LexFault>
-    requires short { length bytes.now ≤ byte_limit }
+    requires short { length bytes.now ≤ UNIT_BYTES }
     requires utf8 { utf8_valid_len bytes.now ≡ length bytes.now }
     ensures tokens { IfOk result (λ read. HasRead unit bytes.now read.tokens.items read.weight) }
-    ensures fault { IfErr result (λ fault. (fault ≡ LexFault.Memory) ⊎ HasReason unit bytes.now fault) }
+    ensures fault { IfErr result (λ fault.
+        (fault ≡ LexFault.Memory) ⊎ HasReason unit bytes.now fault) }
 {
     let mut found = Weighed {
         tokens: Vec::new(alloc),
@@ -157,13 +155,13 @@ fn read_pieces(alloc: Global, unit: u32, bytes: &[u8]) -> Result<Weighed, LexFau
     let mut at = script_len(bytes);
     let mut place = place_after(start(unit), &bytes[..at]);
     while at < bytes.len() {
-        let (piece, length) = next_piece(innermost(&nesting), &bytes[at..]);
+        let (class, length) = next_piece(innermost(&nesting), &bytes[at..]);
         let text = &bytes[at..at + length];
-        if let Some(fault) = fault_of(place, piece, text) {
+        if let Some(fault) = fault_of(place, class, text) {
             return Err(fault);
         }
-        found.add(alloc, place, piece, text)?;
-        open_after(&mut nesting, piece)?;
+        found.add(alloc, place, class, text)?;
+        open_after(&mut nesting, class)?;
         place = place_after(place, text);
         at += length;
     }
@@ -215,31 +213,31 @@ fn place_after(place: Place, bytes: &[u8]) -> Place
     now
 }
 
-fn refusal_fault(place: Place, refusal: Refusal) -> LexFault
+fn reason_fault(place: Place, reason: LexReason) -> LexFault
     requires { place.column + 1 < 2 ^ 32 }
-    ensures { result ≡ refusal_fault place refusal }
+    ensures { result ≡ reason_fault place reason }
 {
-    match refusal {
-        Refusal::Unknown => LexFault::BadToken(place),
-        Refusal::OpenRaw => LexFault::BadToken(Place {
+    match reason {
+        LexReason::Unknown => LexFault::BadToken(place),
+        LexReason::OpenRaw => LexFault::BadToken(Place {
             unit: place.unit,
             line: place.line,
             column: place.column + 1,
         }),
-        Refusal::TripleQuotes => LexFault::LeftOut(place, Feature::TripleQuotes),
-        Refusal::Fraction => LexFault::LeftOut(place, Feature::Doubles),
-        Refusal::NullAware => LexFault::LeftOut(place, Feature::NullAware),
-        Refusal::Symbol => LexFault::LeftOut(place, Feature::Symbols),
+        LexReason::TripleQuotes => LexFault::LeftOut(place, Feature::TripleQuotes),
+        LexReason::Fraction => LexFault::LeftOut(place, Feature::Doubles),
+        LexReason::NullAware => LexFault::LeftOut(place, Feature::NullAware),
+        LexReason::Symbol => LexFault::LeftOut(place, Feature::Symbols),
     }
 }
 
-fn fault_of(place: Place, piece: Piece, bytes: &[u8]) -> Option<LexFault>
+fn fault_of(place: Place, class: PieceClass, bytes: &[u8]) -> Option<LexFault>
     requires { place.column + 1 < 2 ^ 32 }
-    ensures { result ≡ fault_of place piece bytes.now }
+    ensures { result ≡ fault_of place class bytes.now }
 {
-    match piece {
-        Piece::Refused(refusal) => Some(refusal_fault(place, refusal)),
-        Piece::Lexeme(TokenKind::Integer) if is_too_large(bytes) => {
+    match class {
+        PieceClass::Refused(reason) => Some(reason_fault(place, reason)),
+        PieceClass::Lexeme(TokenKind::Integer) if is_too_large(bytes) => {
             Some(LexFault::IntegerTooLarge(place))
         }
         _ => None,

@@ -1,5 +1,6 @@
 // Tokens written out.
 ghost use Rattle.std.specs.Prelude.{◌≡◌, ◌≤◌, ◌++◌, ◌∷◌, ℕ, [], replicate, IfOk, OnOk};
+ghost use Rattle.std.specs.Str.{byte};
 ghost use Rattle.dart_lex.specs.Render.{is_greater, begins_greater, separator, text_behind, rendered, Rising, Nests, InUnit, InRange, Restores};
 
 use dart_base::bytes::Bytes;
@@ -15,7 +16,8 @@ use std::alloc::{AllocError, Global};
 pub fn render(alloc: Global, tokens: &[Token]) -> Result<Bytes, AllocError>
     requires { Rising 1 tokens.now }
     ensures text { IfOk result (λ bytes. bytes ≡ rendered tokens.now) }
-    ensures restores { IfOk result (λ bytes. (unit : ℕ) → Nests [] tokens.now → InUnit unit tokens.now → InRange tokens.now → Restores unit tokens.now bytes) }
+    ensures restores { IfOk result (λ bytes. (unit : ℕ) → Nests [] tokens.now → InUnit unit tokens.now
+        → InRange tokens.now → Restores unit tokens.now bytes) }
 {
     let mut out = Bytes::new(alloc);
     push_tokens(&mut out, tokens)?;
@@ -63,7 +65,7 @@ fn push_separator(out: &mut Bytes, before: &Token, token: &Token) -> Result<(), 
 }
 
 fn push_lines(out: &mut Bytes, count: u32) -> Result<(), AllocError>
-    ensures { OnOk result (out.new ≡ out.old ++ replicate count 10) }
+    ensures { OnOk result (out.new ≡ out.old ++ replicate count (byte "\n")) }
 {
     for _ in 0..count {
         out.push(b'\n')?;

@@ -7,9 +7,9 @@ use Rattle.dart_token.specs.declared.sign.Sign.TheVariants as s
 use Rattle.dart_token.specs.declared.token.Quote.{Quote}
 use Rattle.dart_token.specs.declared.token.TokenKind.TheVariants as t
 use Rattle.dart_token.specs.Sign.{sign_text}
-use Rattle.dart_pieces.specs.declared.piece.Piece.{Piece}
-use Rattle.dart_pieces.specs.declared.piece.Piece.TheVariants as k
-use Rattle.dart_pieces.specs.declared.piece.Refusal.TheVariants as r
+use Rattle.dart_pieces.specs.declared.piece.PieceClass.{PieceClass}
+use Rattle.dart_pieces.specs.declared.piece.PieceClass.TheVariants as k
+use Rattle.dart_pieces.specs.declared.piece.LexReason.TheVariants as r
 use Rattle.dart_pieces.specs.Bytes.{is_digit, in_line}
 use Rattle.dart_pieces.specs.Numbers.{IsDouble}
 use Rattle.dart_pieces.specs.Pieces.{IsAllowed}
@@ -19,7 +19,7 @@ use Rattle.dart_pieces.proofs.RunLaws.{by_bool, and_true}
 use Rattle.dart_pieces.proofs.Found.{Reaches}
 
 -- which of the three tables a piece is in
-abbrev pub Placed : Piece → ℕ → List ℕ → Type 0
+abbrev pub Placed : PieceClass → ℕ → List ℕ → Type 0
 Placed kind n text = ((first_mark text ≡ Some kind) × (n ≡ 1)) ⊎ (((second_mark text ≡ Some kind) × (n ≡ 2)) ⊎ ((third_mark text ≡ Some kind) × (n ≡ 3)))
 
 pub placed : (sign : Sign) (rest : List ℕ) → Placed (k.Lexeme (t.Sign sign)) (length (sign_text sign)) (sign_text sign ++ rest)
@@ -274,7 +274,7 @@ begins_sign s.ShiftLeftAssign b more e none = let same : b ≡ 60 = cc in let ba
 
 -- ---- what the tables give is there
 
-abbrev pub IsMark : Piece → List ℕ → Type 0
+abbrev pub IsMark : PieceClass → List ℕ → Type 0
 IsMark (k.Lexeme (t.Sign sign)) piece = piece ≡ sign_text sign
 IsMark (k.Refused r.Fraction) piece = IsDouble piece
 IsMark (k.Refused r.NullAware) piece = (piece ≡ 63 ∷ 63 ∷ []) ⊎ ((piece ≡ 63 ∷ 46 ∷ []) ⊎ (piece ≡ 63 ∷ 63 ∷ 61 ∷ []))
@@ -285,20 +285,20 @@ same_byte : (a b : ℕ) → (a == b) ≡ true → a ≡ b
 same_byte a b e = grind (arith, nat_tests)
 
 -- one line of a table
-line : (P : Piece → Type 0) (b : Bool) (p : Piece) (others : Option Piece) → (b ≡ true → P p) → ((q : Piece) → others ≡ Some q → P q) → (q : Piece) → cond b (Some p) others ≡ Some q → P q
+line : (P : PieceClass → Type 0) (b : Bool) (p : PieceClass) (others : Option PieceClass) → (b ≡ true → P p) → ((q : PieceClass) → others ≡ Some q → P q) → (q : PieceClass) → cond b (Some p) others ≡ Some q → P q
 line P true p others hit miss q e = let same : p ≡ q = cc in subst P same (hit refl)
 line P false p others hit miss q e = miss q e
 
 -- the lines of one first byte
-part : (P : Piece → Type 0) (b : Bool) (lines others : Option Piece) → (b ≡ true → (q : Piece) → lines ≡ Some q → P q) → ((q : Piece) → others ≡ Some q → P q) → (q : Piece) → cond b lines others ≡ Some q → P q
+part : (P : PieceClass → Type 0) (b : Bool) (lines others : Option PieceClass) → (b ≡ true → (q : PieceClass) → lines ≡ Some q → P q) → ((q : PieceClass) → others ≡ Some q → P q) → (q : PieceClass) → cond b lines others ≡ Some q → P q
 part P true lines others hit miss q e = hit refl q e
 part P false lines others hit miss q e = miss q e
 
-none : (P : Piece → Type 0) (q : Piece) → None ≡ Some q → P q
+none : (P : PieceClass → Type 0) (q : PieceClass) → None ≡ Some q → P q
 none P q e = absurd cc
 
-pub one_sound : (a : ℕ) (piece : Piece) → one_mark a ≡ Some piece → IsMark piece (a ∷ [])
-one_sound a = let P : Piece → Type 0 = λ p. IsMark p (a ∷ []) in line P (a == 40) (k.Lexeme (t.Sign s.LeftParenthesis)) _ (λ e. ap (λ x. x ∷ []) (same_byte a 40 e))
+pub one_sound : (a : ℕ) (piece : PieceClass) → one_mark a ≡ Some piece → IsMark piece (a ∷ [])
+one_sound a = let P : PieceClass → Type 0 = λ p. IsMark p (a ∷ []) in line P (a == 40) (k.Lexeme (t.Sign s.LeftParenthesis)) _ (λ e. ap (λ x. x ∷ []) (same_byte a 40 e))
     (line P (a == 41) (k.Lexeme (t.Sign s.RightParenthesis)) _ (λ e. ap (λ x. x ∷ []) (same_byte a 41 e))
     (line P (a == 91) (k.Lexeme (t.Sign s.LeftBracket)) _ (λ e. ap (λ x. x ∷ []) (same_byte a 91 e))
     (line P (a == 93) (k.Lexeme (t.Sign s.RightBracket)) _ (λ e. ap (λ x. x ∷ []) (same_byte a 93 e))
@@ -329,8 +329,8 @@ one_sound a = let P : Piece → Type 0 = λ p. IsMark p (a ∷ []) in line P (a 
 two_is : (a b c d : ℕ) → (a == c) ≡ true → (b == d) ≡ true → a ∷ b ∷ [] ≡ c ∷ d ∷ []
 two_is a b c d e f = ap (λ x. x ∷ b ∷ []) (same_byte a c e) ∙ ap (λ x. c ∷ x ∷ []) (same_byte b d f)
 
-pub two_sound : (a b : ℕ) (piece : Piece) → two_mark a b ≡ Some piece → IsMark piece (a ∷ b ∷ [])
-two_sound a b = let P : Piece → Type 0 = λ p. IsMark p (a ∷ b ∷ []) in part P (a == 46) _ _ (λ e. line P (b == 46) (k.Lexeme (t.Sign s.DotDot)) _ (λ f. two_is a b 46 46 e f) (line P (is_digit b) (k.Refused r.Fraction) _ (λ f. inl (b, ap (λ x. x ∷ b ∷ []) (same_byte a 46 e), f)) (none P)))
+pub two_sound : (a b : ℕ) (piece : PieceClass) → two_mark a b ≡ Some piece → IsMark piece (a ∷ b ∷ [])
+two_sound a b = let P : PieceClass → Type 0 = λ p. IsMark p (a ∷ b ∷ []) in part P (a == 46) _ _ (λ e. line P (b == 46) (k.Lexeme (t.Sign s.DotDot)) _ (λ f. two_is a b 46 46 e f) (line P (is_digit b) (k.Refused r.Fraction) _ (λ f. inl (b, ap (λ x. x ∷ b ∷ []) (same_byte a 46 e), f)) (none P)))
     (part P (a == 61) _ _ (λ e. line P (b == 62) (k.Lexeme (t.Sign s.Arrow)) _ (λ f. two_is a b 61 62 e f) (line P (b == 61) (k.Lexeme (t.Sign s.EqualEqual)) _ (λ f. two_is a b 61 61 e f) (none P)))
     (part P (a == 33) _ _ (λ e. line P (b == 61) (k.Lexeme (t.Sign s.NotEqual)) _ (λ f. two_is a b 33 61 e f) (none P))
     (part P (a == 60) _ _ (λ e. line P (b == 61) (k.Lexeme (t.Sign s.LessEqual)) _ (λ f. two_is a b 60 61 e f) (line P (b == 60) (k.Lexeme (t.Sign s.ShiftLeft)) _ (λ f. two_is a b 60 60 e f) (none P)))
@@ -353,14 +353,14 @@ three_is a b c x y z e =
     let two = and_true (a == x) (b == y) one.0 in
     ap (λ w. w ∷ b ∷ c ∷ []) (same_byte a x two.0) ∙ ap (λ w. x ∷ w ∷ c ∷ []) (same_byte b y two.1) ∙ ap (λ w. x ∷ y ∷ w ∷ []) (same_byte c z one.1)
 
-pub three_sound : (a b c : ℕ) (piece : Piece) → three_mark a b c ≡ Some piece → IsMark piece (a ∷ b ∷ c ∷ [])
-three_sound a b c = let P : Piece → Type 0 = λ p. IsMark p (a ∷ b ∷ c ∷ []) in line P ((a == 126) && (b == 47) && (c == 61)) (k.Lexeme (t.Sign s.TildeSlashAssign)) _ (λ e. three_is a b c 126 47 61 e)
+pub three_sound : (a b c : ℕ) (piece : PieceClass) → three_mark a b c ≡ Some piece → IsMark piece (a ∷ b ∷ c ∷ [])
+three_sound a b c = let P : PieceClass → Type 0 = λ p. IsMark p (a ∷ b ∷ c ∷ []) in line P ((a == 126) && (b == 47) && (c == 61)) (k.Lexeme (t.Sign s.TildeSlashAssign)) _ (λ e. three_is a b c 126 47 61 e)
     (line P ((a == 60) && (b == 60) && (c == 61)) (k.Lexeme (t.Sign s.ShiftLeftAssign)) _ (λ e. three_is a b c 60 60 61 e)
     (line P ((a == 63) && (b == 63) && (c == 61)) (k.Refused r.NullAware) _ (λ e. inr (inr (three_is a b c 63 63 61 e))) (none P)))
 
 -- ---- the longest of the three is found
 
-pub mark_reached : (kind : Piece) (n : ℕ) (one two three : Option Piece)
+pub mark_reached : (kind : PieceClass) (n : ℕ) (one two three : Option PieceClass)
     → (((one ≡ Some kind) × (n ≡ 1)) ⊎ (((two ≡ Some kind) × (n ≡ 2)) ⊎ ((three ≡ Some kind) × (n ≡ 3))))
     → Reaches kind n (mark_or three 3 (mark_or two 2 (mark_or one 1 (k.Refused r.Unknown, 1))))
 mark_reached kind n one two (Some p) (inl (e, m)) = inl (omega arith)
@@ -376,7 +376,7 @@ mark_reached kind n None None None (inl (e, m)) = absurd cc
 mark_reached kind n None None None (inr (inl (e, m))) = absurd cc
 mark_reached kind n None None None (inr (inr (e, m))) = absurd cc
 
-longer_block : (kind : Piece) (n : ℕ) (o : Option ℕ) → n < 2 → Reaches kind n (block_found o)
+longer_block : (kind : PieceClass) (n : ℕ) (o : Option ℕ) → n < 2 → Reaches kind n (block_found o)
 longer_block kind n None lt = inl (omega arith)
 longer_block kind n (Some m) lt = inl (omega arith)
 
@@ -388,11 +388,11 @@ reach_sign around sign rest h =
     (λ y. let one : length (sign_text sign) ≡ 1 = block_sign sign rest y in rw (n, y) (longer_block (k.Lexeme (t.Sign sign)) (length (sign_text sign)) (scan 1 (after_two (sign_text sign ++ rest))) (omega arith)))
     (λ m. rw (n, m) (mark_reached (k.Lexeme (t.Sign sign)) (length (sign_text sign)) (first_mark (sign_text sign ++ rest)) (second_mark (sign_text sign ++ rest)) (third_mark (sign_text sign ++ rest)) (placed sign rest)))))
 
-pub third_is : (b : ℕ) (rest : List ℕ) (p : Piece) → third_mark (b ∷ rest) ≡ Some p → (2 ≤ length rest) × IsMark p (take 3 (b ∷ rest))
+pub third_is : (b : ℕ) (rest : List ℕ) (p : PieceClass) → third_mark (b ∷ rest) ≡ Some p → (2 ≤ length rest) × IsMark p (take 3 (b ∷ rest))
 third_is b [] p e = absurd cc
 third_is b (x ∷ []) p e = absurd cc
 third_is b (x ∷ y ∷ more) p e = (omega arith, three_sound b x y p e)
 
-pub second_is : (b : ℕ) (rest : List ℕ) (p : Piece) → second_mark (b ∷ rest) ≡ Some p → (1 ≤ length rest) × IsMark p (take 2 (b ∷ rest))
+pub second_is : (b : ℕ) (rest : List ℕ) (p : PieceClass) → second_mark (b ∷ rest) ≡ Some p → (1 ≤ length rest) × IsMark p (take 2 (b ∷ rest))
 second_is b [] p e = absurd cc
 second_is b (x ∷ more) p e = (omega arith, two_sound b x p e)

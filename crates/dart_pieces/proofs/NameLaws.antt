@@ -10,10 +10,10 @@ use Rattle.dart_token.specs.declared.token.TokenKind.TheVariants as t
 use Rattle.dart_token.specs.Word.{word_text}
 use Rattle.dart_token.specs.Lookup.{word_of}
 use Rattle.dart_token.proofs.Words.{word_found, found_by_text, found_text}
-use Rattle.dart_pieces.specs.declared.piece.Piece.TheVariants as k
+use Rattle.dart_pieces.specs.declared.piece.PieceClass.TheVariants as k
 use Rattle.dart_pieces.specs.Bytes.{is_letter, is_word_byte, IsRun, Passes}
 use Rattle.dart_pieces.specs.Strings.{quote_byte, quote_of}
-use Rattle.dart_pieces.specs.Pieces.{Is}
+use Rattle.dart_pieces.specs.Pieces.{IsPiece}
 use Rattle.dart_pieces.specs.Reader.{after_two, name_kind, name_found, raw_quote, raw_at, letter_at}
 use Rattle.dart_pieces.proofs.RunLaws.{by_bool, prefix_within, run_within, run_passes, run_taken, take_front_at}
 use Rattle.dart_pieces.proofs.QuoteLaws.{raw_more, raw_sound}
@@ -122,8 +122,8 @@ word_run w.Typedef = (refl, (refl, (refl, (refl, (refl, (refl, (refl, tt)))))))
 
 -- ---- what is found is a name
 
-name_is : (around : Option Quote) (p : List ℕ) → IsRun is_letter is_word_byte p → Is around (k.Lexeme (name_kind (word_of p))) p
-name_is around p h = (elim (word_of p) as (λ o. word_of p ≡ o → Is around (k.Lexeme (name_kind (word_of p))) p) [
+name_is : (around : Option Quote) (p : List ℕ) → IsRun is_letter is_word_byte p → IsPiece around (k.Lexeme (name_kind (word_of p))) p
+name_is around p h = (elim (word_of p) as (λ o. word_of p ≡ o → IsPiece around (k.Lexeme (name_kind (word_of p))) p) [
   | None ↦ λ e. rw e (h, λ word f. let g : word_of p ≡ Some word = found_by_text word p f in absurd cc)
   | Some word ↦ λ e. rw e (sym (found_text word p e))
 ]) refl

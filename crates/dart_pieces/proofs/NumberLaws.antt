@@ -5,8 +5,8 @@ use Rattle.std.proofs.lemmas.List.{length-append, length-drop}
 use Rattle.std.specs.List.{prefix_len}
 use Rattle.dart_token.specs.declared.token.Quote.{Quote}
 use Rattle.dart_token.specs.declared.token.TokenKind.TheVariants as t
-use Rattle.dart_pieces.specs.declared.piece.Piece.TheVariants as k
-use Rattle.dart_pieces.specs.declared.piece.Refusal.TheVariants as r
+use Rattle.dart_pieces.specs.declared.piece.PieceClass.TheVariants as k
+use Rattle.dart_pieces.specs.declared.piece.LexReason.TheVariants as r
 use Rattle.dart_pieces.specs.Bytes.{is_digit, is_hex_digit, is_x, is_exponent, is_plus_or_minus, Passes, Stops, IsRun}
 use Rattle.dart_pieces.specs.Numbers.{digit, value_on, value_in, IsInteger, MakesDouble}
 use Rattle.dart_pieces.specs.Reader.{hex_len, double_len, decimal_at, number_at}

@@ -9,14 +9,14 @@ use Rattle.dart_token.specs.declared.token.Quote.TheVariants as q
 use Rattle.dart_token.specs.declared.token.TokenKind.TheVariants as t
 use Rattle.dart_token.specs.Sign.{sign_text}
 use Rattle.dart_token.specs.Word.{word_text}
-use Rattle.dart_pieces.specs.declared.piece.Piece.{Piece}
-use Rattle.dart_pieces.specs.declared.piece.Piece.TheVariants as k
-use Rattle.dart_pieces.specs.declared.piece.Refusal.TheVariants as r
+use Rattle.dart_pieces.specs.declared.piece.PieceClass.{PieceClass}
+use Rattle.dart_pieces.specs.declared.piece.PieceClass.TheVariants as k
+use Rattle.dart_pieces.specs.declared.piece.LexReason.TheVariants as r
 use Rattle.dart_pieces.specs.Bytes.{is_blank, is_digit, is_letter, in_line, Passes, IsRun}
 use Rattle.dart_pieces.specs.Comments.{Mark, marks_bytes, Closing}
 use Rattle.dart_pieces.specs.Numbers.{IsDouble}
 use Rattle.dart_pieces.specs.Strings.{quote_byte, quote_of}
-use Rattle.dart_pieces.specs.Pieces.{IsAllowed, IsOther, Is}
+use Rattle.dart_pieces.specs.Pieces.{IsAllowed, IsOther, IsPiece}
 use Rattle.dart_pieces.specs.Marks.{one_mark, first_mark, second_mark, third_mark, mark_at}
 use Rattle.dart_pieces.specs.Reader.{is_comment, is_block, after_two, scan, block_found, number_at, letter_at, quoted_at, raw_at, string_at, closes_around, string_or, piece_at}
 use Rattle.dart_pieces.proofs.RunLaws.{by_bool, prefix_within, passes_run, run_within, run_taken}
@@ -94,7 +94,7 @@ reach_opening around rest = (elim (scan 1 rest) as (λ o. scan 1 rest ≡ o → 
   | Some n ↦ λ e. let some = scan_some rest n e in rw e (inl (omega arith))
 ]) refl
 
-name_reached : (around : Option Quote) (p rest : List ℕ) → (kind : Piece) → IsRun is_letter (λ b. true) p → Reaches kind (length p) (letter_at (p ++ rest)) → Reaches kind (length p) (piece_at around (p ++ rest))
+name_reached : (around : Option Quote) (p rest : List ℕ) → (kind : PieceClass) → IsRun is_letter (λ b. true) p → Reaches kind (length p) (letter_at (p ++ rest)) → Reaches kind (length p) (piece_at around (p ++ rest))
 name_reached around [] rest kind h g = absurd h
 name_reached around (x ∷ p) rest kind h g = rw (at_letter around x (p ++ rest) h.0) g
 
@@ -106,11 +106,11 @@ any_run p (x ∷ bytes) h = (h.0, all bytes)
     all [] = tt
     all (b ∷ bytes) = (refl, all bytes)
 
-number_reached : (around : Option Quote) (kind : Piece) (digits more rest : List ℕ) → IsRun is_digit is_digit digits → (n : ℕ) → Reaches kind n (number_at ((digits ++ more) ++ rest)) → Reaches kind n (piece_at around ((digits ++ more) ++ rest))
+number_reached : (around : Option Quote) (kind : PieceClass) (digits more rest : List ℕ) → IsRun is_digit is_digit digits → (n : ℕ) → Reaches kind n (number_at ((digits ++ more) ++ rest)) → Reaches kind n (piece_at around ((digits ++ more) ++ rest))
 number_reached around kind [] more rest h n g = absurd h
 number_reached around kind (x ∷ digits) more rest h n g = rw (at_digit around x ((digits ++ more) ++ rest) h.0) g
 
-digits_reached : (around : Option Quote) (kind : Piece) (digits rest : List ℕ) → IsRun is_digit is_digit digits → (n : ℕ) → Reaches kind n (number_at (digits ++ rest)) → Reaches kind n (piece_at around (digits ++ rest))
+digits_reached : (around : Option Quote) (kind : PieceClass) (digits rest : List ℕ) → IsRun is_digit is_digit digits → (n : ℕ) → Reaches kind n (number_at (digits ++ rest)) → Reaches kind n (piece_at around (digits ++ rest))
 digits_reached around kind [] rest h n g = absurd h
 digits_reached around kind (x ∷ digits) rest h n g = rw (at_digit around x (digits ++ rest) h.0) g
 
@@ -126,7 +126,7 @@ reach_null_aware around b (x ∷ rest) (inl e) = rw e (by_bool (x == 61) (λ y. 
 
 -- ---- bytes that begin nothing
 
-by_option : {A : Type 0} (o : Option Piece) → ((p : Piece) → o ≡ Some p → A) → (o ≡ None → A) → A
+by_option : {A : Type 0} (o : Option PieceClass) → ((p : PieceClass) → o ≡ Some p → A) → (o ≡ None → A) → A
 by_option {A} o one other = (elim o as (λ c. o ≡ c → A) [ Some p ↦ one p | None ↦ other ]) refl
 
 no_comment : (b : ℕ) (rest : List ℕ) → IsOther b → is_comment (b ∷ rest) ≡ false
@@ -154,7 +154,7 @@ no_double b more (inr (digits, tail, e, run, makes)) h = begins digits e run
     begins [] e run = run
     begins (d ∷ digits) e run = let same : b ≡ d = cc in let bad : is_digit b ≡ true = ap is_digit same ∙ run.0 in let no_digit = h.1 in absurd cc
 
-no_mark : (p : Piece) (b : ℕ) (more : List ℕ) → IsMark p (b ∷ more) → IsOther b → ⊥
+no_mark : (p : PieceClass) (b : ℕ) (more : List ℕ) → IsMark p (b ∷ more) → IsOther b → ⊥
 no_mark (k.Lexeme (t.Sign sign)) b more e h = h.5 sign more (sym e)
 no_mark (k.Refused r.Fraction) b more e h = no_double b more e h
 no_mark (k.Refused r.NullAware) b more (inl e) h = let same : b ≡ 63 = cc in h.5 s.Question [] (ap (λ n. n ∷ []) (sym same))
@@ -193,7 +193,7 @@ reach_closing (Some quote) rest h = rw (at_brace quote rest) (string_more quote 
 
 -- ----
 
-pub reach : (around : Option Quote) (kind : Piece) (p rest : List ℕ) → Is around kind p → Reaches kind (length p) (piece_at around (p ++ rest))
+pub reach : (around : Option Quote) (kind : PieceClass) (p rest : List ℕ) → IsPiece around kind p → Reaches kind (length p) (piece_at around (p ++ rest))
 reach around k.Blank p rest h = reach_blank around p rest h
 reach around k.Comment p rest (inl (more, e, h)) = rw e (reach_line around more rest h)
 reach around k.Comment p rest (inr (ms, e, h)) = rw e (reach_block around ms rest h)
@@ -238,7 +238,7 @@ line_sound around (a ∷ b ∷ more) e =
     let eb : b ≡ 47 = grind (arith, nat_tests) in
     let within : prefix_len in_line more ≤ length more = prefix_within in_line more in
     let n : 2 + prefix_len in_line more ≡ suc (suc (prefix_len in_line more)) = omega arith in
-    let P : ℕ → Type 0 = λ i. Is around k.Comment (take i (a ∷ b ∷ more)) in
+    let P : ℕ → Type 0 = λ i. IsPiece around k.Comment (take i (a ∷ b ∷ more)) in
     let head : a ∷ b ∷ take (prefix_len in_line more) more ≡ 47 ∷ 47 ∷ take (prefix_len in_line more) more = cc in
     (omega arith, omega arith, subst P (sym n) (inl (take (prefix_len in_line more) more, head, passes_run in_line more)))
 
@@ -265,7 +265,7 @@ allowed (Some quote) b sign more c e = λ f.
     let same : b ≡ 125 = cc in
     let bad : closes_around (Some quote) 125 ≡ None = ap (closes_around (Some quote)) (sym same) ∙ c in absurd cc
 
-mark_is : (around : Option Quote) (p : Piece) (b : ℕ) (more : List ℕ) → closes_around around b ≡ None → IsMark p (b ∷ more) → Is around p (b ∷ more)
+mark_is : (around : Option Quote) (p : PieceClass) (b : ℕ) (more : List ℕ) → closes_around around b ≡ None → IsMark p (b ∷ more) → IsPiece around p (b ∷ more)
 mark_is around (k.Lexeme (t.Sign sign)) b more c e = (e, allowed around b sign more c e)
 mark_is around (k.Refused r.Fraction) b more c e = e
 mark_is around (k.Refused r.NullAware) b more c e = e

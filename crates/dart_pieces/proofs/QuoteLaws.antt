@@ -6,12 +6,12 @@ use Rattle.std.specs.List.{prefix_len}
 use Rattle.dart_token.specs.declared.token.Quote.{Quote}
 use Rattle.dart_token.specs.declared.token.Quote.TheVariants as q
 use Rattle.dart_token.specs.declared.token.TokenKind.TheVariants as t
-use Rattle.dart_pieces.specs.declared.piece.Piece.{Piece}
-use Rattle.dart_pieces.specs.declared.piece.Piece.TheVariants as k
-use Rattle.dart_pieces.specs.declared.piece.Refusal.TheVariants as r
+use Rattle.dart_pieces.specs.declared.piece.PieceClass.{PieceClass}
+use Rattle.dart_pieces.specs.declared.piece.PieceClass.TheVariants as k
+use Rattle.dart_pieces.specs.declared.piece.LexReason.TheVariants as r
 use Rattle.dart_pieces.specs.Bytes.{is_name_byte, Passes, Stops}
 use Rattle.dart_pieces.specs.Strings.{quote_byte, Element, plain, escaped, two, four, braced, named, element_bytes, elements_bytes, is_plain, Fits, AllFit, IsString, interpolation, in_raw, IsRaw}
-use Rattle.dart_pieces.specs.Pieces.{Is}
+use Rattle.dart_pieces.specs.Pieces.{IsPiece}
 use Rattle.dart_pieces.specs.Marks.{Found}
 use Rattle.dart_pieces.specs.Reader.{begins, element_len, body_len, string_end, string_at, begins_quotes, quoted_at, raw_at}
 use Rattle.dart_pieces.proofs.RunLaws.{and_no, by_bool, and_true, passes_run, run_stops, drop_front, take_one, take_two}
@@ -32,22 +32,22 @@ quote_stops : (quote : Quote) (rest : List ℕ) → Stops is_name_byte (quote_by
 quote_stops q.Single rest = refl
 quote_stops q.Double rest = refl
 
-closed_end : (quote : Quote) (ended head : Piece) (n : ℕ) (rest : List ℕ) → string_end quote ended head n (quote_byte quote ∷ rest) ≡ (ended, 2 + n)
+closed_end : (quote : Quote) (ended head : PieceClass) (n : ℕ) (rest : List ℕ) → string_end quote ended head n (quote_byte quote ∷ rest) ≡ (ended, 2 + n)
 closed_end q.Single ended head n [] = refl
 closed_end q.Single ended head n (x ∷ rest) = refl
 closed_end q.Double ended head n [] = refl
 closed_end q.Double ended head n (x ∷ rest) = refl
 
-open_end : (quote : Quote) (ended head : Piece) (n : ℕ) (rest : List ℕ) → string_end quote ended head n (36 ∷ 123 ∷ rest) ≡ (head, 3 + n)
+open_end : (quote : Quote) (ended head : PieceClass) (n : ℕ) (rest : List ℕ) → string_end quote ended head n (36 ∷ 123 ∷ rest) ≡ (head, 3 + n)
 open_end q.Single ended head n rest = refl
 open_end q.Double ended head n rest = refl
 
-pub closed_found : (quote : Quote) (ended head : Piece) (es : List Element) (rest : List ℕ) → AllFit quote es → string_at quote ended head (elements_bytes es ++ (quote_byte quote ∷ rest)) ≡ (ended, 2 + length (elements_bytes es))
+pub closed_found : (quote : Quote) (ended head : PieceClass) (es : List Element) (rest : List ℕ) → AllFit quote es → string_at quote ended head (elements_bytes es ++ (quote_byte quote ∷ rest)) ≡ (ended, 2 + length (elements_bytes es))
 closed_found quote ended head es rest h =
     let n = body_reach quote es (quote_byte quote ∷ rest) h (end_quote quote rest) (quote_stops quote rest) in
     rw n (rw (drop_front (elements_bytes es) (quote_byte quote ∷ rest)) (closed_end quote ended head (length (elements_bytes es)) rest))
 
-pub open_found : (quote : Quote) (ended head : Piece) (es : List Element) (rest : List ℕ) → AllFit quote es → string_at quote ended head (elements_bytes es ++ (36 ∷ 123 ∷ rest)) ≡ (head, 3 + length (elements_bytes es))
+pub open_found : (quote : Quote) (ended head : PieceClass) (es : List Element) (rest : List ℕ) → AllFit quote es → string_at quote ended head (elements_bytes es ++ (36 ∷ 123 ∷ rest)) ≡ (head, 3 + length (elements_bytes es))
 open_found quote ended head es rest h =
     let n = body_reach quote es (36 ∷ 123 ∷ rest) h (end_dollar quote rest) refl in
     rw n (rw (drop_front (elements_bytes es) (36 ∷ 123 ∷ rest)) (open_end quote ended head (length (elements_bytes es)) rest))
@@ -111,7 +111,7 @@ size_closed quote bytes = length-append bytes (quote_byte quote ∷ [])
 size_open : (bytes : List ℕ) → length (bytes ++ interpolation) ≡ length bytes + 2
 size_open bytes = length-append bytes interpolation
 
-pub reach_ended : (quote : Quote) (first : ℕ) (ended head : Piece) (p rest : List ℕ) → (found : List ℕ → Found) → ((more : List ℕ) → found (first ∷ more) ≡ string_at quote ended head more)
+pub reach_ended : (quote : Quote) (first : ℕ) (ended head : PieceClass) (p rest : List ℕ) → (found : List ℕ → Found) → ((more : List ℕ) → found (first ∷ more) ≡ string_at quote ended head more)
     → IsString quote first (quote_byte quote ∷ []) p → Reaches ended (length p) (found (p ++ rest))
 reach_ended quote first ended head p rest found at (es, e, fit) =
     let more : (elements_bytes es ++ quote_byte quote ∷ []) ++ rest ≡ elements_bytes es ++ (quote_byte quote ∷ rest) = append_assoc (elements_bytes es) (quote_byte quote ∷ []) rest in
@@ -119,7 +119,7 @@ reach_ended quote first ended head p rest found at (es, e, fit) =
     let n : 2 + length (elements_bytes es) ≡ suc (length (elements_bytes es ++ quote_byte quote ∷ [])) = omega arith in
     rw e (rw (at ((elements_bytes es ++ quote_byte quote ∷ []) ++ rest)) (rw more (rw (closed_found quote ended head es rest fit) (inr (refl, n)))))
 
-pub reach_opened : (quote : Quote) (first : ℕ) (ended head : Piece) (p rest : List ℕ) → (found : List ℕ → Found) → ((more : List ℕ) → found (first ∷ more) ≡ string_at quote ended head more)
+pub reach_opened : (quote : Quote) (first : ℕ) (ended head : PieceClass) (p rest : List ℕ) → (found : List ℕ → Found) → ((more : List ℕ) → found (first ∷ more) ≡ string_at quote ended head more)
     → IsString quote first interpolation p → Reaches head (length p) (found (p ++ rest))
 reach_opened quote first ended head p rest found at (es, e, fit) =
     let more : (elements_bytes es ++ interpolation) ++ rest ≡ elements_bytes es ++ (36 ∷ 123 ∷ rest) = append_assoc (elements_bytes es) interpolation rest in
@@ -146,13 +146,13 @@ reach_head quote p rest found at (es, e, fit) =
     rw e (rw (at ((elements_bytes es ++ interpolation) ++ rest)) (rw more (rw (open_no_quotes quote es rest fit) (rw (open_found quote (k.Lexeme t.Whole) (k.Lexeme (t.Head quote)) es rest fit) (inr (refl, n))))))
 
 -- what begins a string, as far as it is read
-string_some : (quote : Quote) (ended head : Piece) (n : ℕ) (rest : List ℕ) → Reaches (k.Refused r.Unknown) 1 (string_end quote ended head n rest)
+string_some : (quote : Quote) (ended head : PieceClass) (n : ℕ) (rest : List ℕ) → Reaches (k.Refused r.Unknown) 1 (string_end quote ended head n rest)
 string_some quote ended head n [] = inr (refl, refl)
 string_some quote ended head n (a ∷ []) = by_bool (a == quote_byte quote) (λ e. rw e (inl (omega arith))) (λ e. rw e (inr (refl, refl)))
 string_some quote ended head n (a ∷ b ∷ rest) = by_bool (a == quote_byte quote) (λ e. rw e (inl (omega arith)))
     (λ e. by_bool ((a == 36) && (b == 123)) (λ o. rw (e, o) (inl (omega arith))) (λ o. rw (e, o) (inr (refl, refl))))
 
-pub string_more : (quote : Quote) (ended head : Piece) (more : List ℕ) → Reaches (k.Refused r.Unknown) 1 (string_at quote ended head more)
+pub string_more : (quote : Quote) (ended head : PieceClass) (more : List ℕ) → Reaches (k.Refused r.Unknown) 1 (string_at quote ended head more)
 string_more quote ended head more = string_some quote ended head (body_len quote more) (drop (body_len quote more) more)
 
 pub quoted_more : (quote : Quote) (more : List ℕ) → Reaches (k.Refused r.Unknown) 1 (quoted_at quote more)
@@ -223,10 +223,10 @@ two_quotes quote (a ∷ b ∷ rest) e =
     let eb : b ≡ quote_byte quote = let y = both.1 in grind (arith, nat_tests) in
     (rest, ap (λ x. x ∷ b ∷ rest) ea ∙ ap (λ x. quote_byte quote ∷ x ∷ rest) eb)
 
-module _ (around : Option Quote) (quote : Quote) (first : ℕ) (ended head : Piece)
-    (is_ended : (p : List ℕ) → IsString quote first (quote_byte quote ∷ []) p → Is around ended p)
-    (is_head : (p : List ℕ) → IsString quote first interpolation p → Is around head p)
-    (is_short : Is around (k.Refused r.Unknown) (first ∷ [])) where
+module _ (around : Option Quote) (quote : Quote) (first : ℕ) (ended head : PieceClass)
+    (is_ended : (p : List ℕ) → IsString quote first (quote_byte quote ∷ []) p → IsPiece around ended p)
+    (is_head : (p : List ℕ) → IsString quote first interpolation p → IsPiece around head p)
+    (is_short : IsPiece around (k.Refused r.Unknown) (first ∷ [])) where
   closed_sound : (more : List ℕ) (a : ℕ) (rest : List ℕ) → drop (body_len quote more) more ≡ a ∷ rest → (a == quote_byte quote) ≡ true → SoundAt around (first ∷ more) (ended, 2 + body_len quote more)
   closed_sound more a rest e y =
       let same : a ≡ quote_byte quote = grind (arith, nat_tests) in

@@ -12,10 +12,10 @@ use Rattle.dart_token.specs.declared.token.TokenKind.TheVariants as t
 use Rattle.dart_token.specs.Sign.{sign_text}
 use Rattle.dart_token.specs.Word.{word_text}
 use Rattle.dart_token.specs.Lookup.{word_of}
-use Rattle.dart_pieces.specs.declared.piece.Piece.TheVariants as k
+use Rattle.dart_pieces.specs.declared.piece.PieceClass.TheVariants as k
 use Rattle.dart_pieces.specs.Bytes.{is_letter, is_word_byte, is_digit, is_hex_digit, is_x, is_name_byte, is_name_start, is_inner, in_line, Passes, Stops, IsRun}
 use Rattle.dart_pieces.specs.Strings.{quote_byte, Element, plain, escaped, two, four, braced, named, element_bytes, elements_bytes, Fits, AllFit, IsString, interpolation, in_raw, IsRaw}
-use Rattle.dart_pieces.specs.Pieces.{IsAllowed, Is}
+use Rattle.dart_pieces.specs.Pieces.{IsAllowed, IsPiece}
 use Rattle.dart_pieces.specs.Marks.{Found}
 use Rattle.dart_pieces.specs.Reader.{name_kind, name_found, raw_quote, hex_len, double_len, string_at, piece_at}
 use Rattle.dart_pieces.proofs.RunLaws.{by_bool, and_true, run_stops, run_passes, take_front_at, drop_front, append_passes}
@@ -336,7 +336,7 @@ raw_stops_at around quote p b rest gap (bytes, e, h) =
 
 -- ---- each token
 
-pub stops : (around : Option Quote) (kind : TokenKind) (p : List ℕ) (b : ℕ) (more : List ℕ) → IsGap b → Is around (k.Lexeme kind) p → piece_at around (p ++ (b ∷ more)) ≡ (k.Lexeme kind, length p)
+pub stops : (around : Option Quote) (kind : TokenKind) (p : List ℕ) (b : ℕ) (more : List ℕ) → IsGap b → IsPiece around (k.Lexeme kind) p → piece_at around (p ++ (b ∷ more)) ≡ (k.Lexeme kind, length p)
 stops around t.Identifier p b more gap h = name_stops around t.Identifier p b more gap h.0 (identifier_kind p h.1)
 stops around (t.Word word) p b more gap e = rw e (name_stops around (t.Word word) (word_text word) b more gap (word_run word) (word_kind word))
 stops around t.Integer p b more gap (inl h) = digits_stop around p b more gap h
@@ -448,7 +448,7 @@ sign_in_line s.BarAssign = (refl, (refl, tt))
 sign_in_line s.CaretAssign = (refl, (refl, tt))
 sign_in_line s.ShiftLeftAssign = (refl, (refl, (refl, tt)))
 
-pub token_in_line : (around : Option Quote) (kind : TokenKind) (p : List ℕ) → Is around (k.Lexeme kind) p → Passes in_line p
+pub token_in_line : (around : Option Quote) (kind : TokenKind) (p : List ℕ) → IsPiece around (k.Lexeme kind) p → Passes in_line p
 token_in_line around t.Identifier p h = weaken is_word_byte in_line p word_in_line (run_passes is_letter is_word_byte p letter_in_word h.0)
 token_in_line around (t.Word word) p e = rw e (weaken is_word_byte in_line (word_text word) word_in_line (run_passes is_letter is_word_byte (word_text word) letter_in_word (word_run word)))
 token_in_line around t.Integer p (inl h) = weaken is_digit in_line p digit_in_line (run_passes is_digit is_digit p (λ b e. e) h)

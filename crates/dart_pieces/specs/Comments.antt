@@ -1,5 +1,6 @@
 -- Comments (ECMA-408, 20.1.2 Comments).
-use Rattle.std.specs.Prelude.{◌≡◌, ◌==◌, ℕ, zero, suc, ◌&&◌, ◌++◌, List, [], ◌∷◌, Bool, false, ◌⊎◌}
+use Rattle.std.specs.Prelude.{◌≡◌, ◌==◌, ℕ, zero, suc, ◌&&◌, ◌++◌, List, [], ◌∷◌, Bool, false, ◌⊎◌, codes}
+use Rattle.std.specs.Str.{byte}
 use Rattle.dart_pieces.specs.Bytes.{in_line, Passes}
 
 -- `/*`, `*/`, or another byte
@@ -9,19 +10,19 @@ pub data Mark : Type 0 where
   other : ℕ → Mark
 
 abbrev pub mark_bytes : Mark → List ℕ
-mark_bytes opens = 47 ∷ 42 ∷ []
-mark_bytes closes = 42 ∷ 47 ∷ []
+mark_bytes opens = codes "/*"
+mark_bytes closes = codes "*/"
 mark_bytes (other b) = b ∷ []
 
 abbrev pub marks_bytes : List Mark → List ℕ
 marks_bytes [] = []
-marks_bytes (m ∷ ms) = mark_bytes m ++ marks_bytes ms
+marks_bytes (mark ∷ marks) = mark_bytes mark ++ marks_bytes marks
 
 abbrev pub is_open_mark : ℕ → ℕ → Bool
-is_open_mark a b = (a == 47) && (b == 42)
+is_open_mark a b = (a == byte "/") && (b == byte "*")
 
 abbrev pub is_close_mark : ℕ → ℕ → Bool
-is_close_mark a b = (a == 42) && (b == 47)
+is_close_mark a b = (a == byte "*") && (b == byte "/")
 
 -- these bytes begin with no mark
 abbrev pub Unmarked : List ℕ → Type 0
@@ -32,19 +33,19 @@ Unmarked (a ∷ b ∷ more) = (is_open_mark a b ≡ false) × (is_close_mark a b
 -- These marks close the comments that are open, with all that they open, and not before their end.
 abbrev pub Closing : ℕ → List Mark → Type 0
 Closing zero [] = Unit {0}
-Closing zero (m ∷ ms) = ⊥
-Closing (suc d) [] = ⊥
-Closing (suc d) (opens ∷ ms) = Closing (suc (suc d)) ms
-Closing (suc d) (closes ∷ ms) = Closing d ms
-Closing (suc d) (other b ∷ ms) = Unmarked (b ∷ marks_bytes ms) × Closing (suc d) ms
+Closing zero (mark ∷ marks) = ⊥
+Closing (suc depth) [] = ⊥
+Closing (suc depth) (opens ∷ marks) = Closing (suc (suc depth)) marks
+Closing (suc depth) (closes ∷ marks) = Closing depth marks
+Closing (suc depth) (other b ∷ marks) = Unmarked (b ∷ marks_bytes marks) × Closing (suc depth) marks
 
 -- `/*`, and what closes it
 abbrev pub IsBlock : List ℕ → Type 0
-IsBlock piece = (ms : List Mark) × (piece ≡ 47 ∷ 42 ∷ marks_bytes ms) × Closing 1 ms
+IsBlock bytes = (marks : List Mark) × (bytes ≡ codes "/*" ++ marks_bytes marks) × Closing 1 marks
 
 -- `//` and the rest of a line
 abbrev pub IsLine : List ℕ → Type 0
-IsLine piece = (more : List ℕ) × (piece ≡ 47 ∷ 47 ∷ more) × Passes in_line more
+IsLine bytes = (more : List ℕ) × (bytes ≡ codes "//" ++ more) × Passes in_line more
 
 abbrev pub IsComment : List ℕ → Type 0
-IsComment piece = IsLine piece ⊎ IsBlock piece
+IsComment bytes = IsLine bytes ⊎ IsBlock bytes

@@ -6,7 +6,7 @@ ghost use Rattle.dart_pieces.specs.Comments.{is_open_mark, is_close_mark};
 ghost use Rattle.dart_pieces.specs.Reader.{after_two, is_comment, is_block, scan, block_found};
 
 use crate::bytes::{after_two, line_len};
-use crate::piece::{Piece, Refusal};
+use crate::piece::{LexReason, PieceClass};
 
 pub(crate) fn is_comment(text: &[u8]) -> bool
     ensures { result ≡ is_comment text.now }
@@ -73,18 +73,18 @@ fn scan(text: &[u8]) -> Option<usize>
     Some(at)
 }
 
-fn block_found(scanned: Option<usize>) -> (Piece, usize)
+fn block_found(scanned: Option<usize>) -> (PieceClass, usize)
     requires { (n : ℕ) → scanned ≡ Some n → n < 2 ^ 63 }
     ensures { result ≡ block_found scanned }
 {
     match scanned {
-        Some(length) => (Piece::Comment, 2 + length),
-        None => (Piece::Refused(Refusal::Unknown), 2),
+        Some(length) => (PieceClass::Comment, 2 + length),
+        None => (PieceClass::Refused(LexReason::Unknown), 2),
     }
 }
 
 /// The comment at the front of a text that begins with `/*`.
-pub(crate) fn block_at(text: &[u8]) -> (Piece, usize)
+pub(crate) fn block_at(text: &[u8]) -> (PieceClass, usize)
     ensures { result ≡ block_found (scan 1 (after_two text.now)) }
 {
     block_found(scan(after_two(text)))

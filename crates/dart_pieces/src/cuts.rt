@@ -3,7 +3,7 @@ ghost use Rattle.std.specs.Prelude.{◌≡◌, ◌≤◌, length, OnOk};
 ghost use Rattle.dart_pieces.specs.Cuts.{innermost, opened, begins_script, script_len};
 
 use crate::bytes::line_len;
-use crate::piece::Piece;
+use crate::piece::PieceClass;
 use dart_token::sign::Sign;
 use dart_token::token::{Quote, TokenKind};
 use std::alloc::AllocError;
@@ -38,14 +38,14 @@ pub fn innermost(nesting: &Vec<Option<Quote>>) -> Option<Quote>
     nesting[nesting.len() - 1]
 }
 
-/// Opens or closes what a piece opens or closes.
-pub fn open_after(nesting: &mut Vec<Option<Quote>>, piece: Piece) -> Result<(), AllocError>
-    ensures { OnOk result (nesting.new.items ≡ opened nesting.old.items piece) }
+/// Opens or closes what a piece of this class opens or closes.
+pub fn open_after(nesting: &mut Vec<Option<Quote>>, class: PieceClass) -> Result<(), AllocError>
+    ensures { OnOk result (nesting.new.items ≡ opened nesting.old.items class) }
 {
-    match piece {
-        Piece::Lexeme(TokenKind::Sign(Sign::LeftBrace)) => nesting.push(None)?,
-        Piece::Lexeme(TokenKind::Head(quote)) => nesting.push(Some(quote))?,
-        Piece::Lexeme(TokenKind::Sign(Sign::RightBrace) | TokenKind::Tail) => {
+    match class {
+        PieceClass::Lexeme(TokenKind::Sign(Sign::LeftBrace)) => nesting.push(None)?,
+        PieceClass::Lexeme(TokenKind::Head(quote)) => nesting.push(Some(quote))?,
+        PieceClass::Lexeme(TokenKind::Sign(Sign::RightBrace) | TokenKind::Tail) => {
             nesting.pop();
         }
         _ => {}

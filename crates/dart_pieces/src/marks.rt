@@ -3,17 +3,17 @@ ghost use Rattle.std.specs.Prelude.{◌≡◌, drop};
 ghost use Rattle.dart_pieces.specs.Marks.{one_mark, two_mark, three_mark, first_mark, second_mark, third_mark, mark_at};
 
 use crate::bytes::is_digit;
-use crate::piece::{Piece, Refusal};
+use crate::piece::{LexReason, PieceClass};
 use dart_token::sign::Sign;
 use dart_token::token::TokenKind;
 
-fn sign(sign: Sign) -> Option<Piece>
-    ensures { result ≡ Some (Piece.Lexeme (TokenKind.Sign sign)) }
+fn sign(sign: Sign) -> Option<PieceClass>
+    ensures { result ≡ Some (PieceClass.Lexeme (TokenKind.Sign sign)) }
 {
-    Some(Piece::Lexeme(TokenKind::Sign(sign)))
+    Some(PieceClass::Lexeme(TokenKind::Sign(sign)))
 }
 
-fn one_mark(a: u8) -> Option<Piece>
+fn one_mark(a: u8) -> Option<PieceClass>
     ensures { result ≡ one_mark a }
 {
     match a {
@@ -42,17 +42,17 @@ fn one_mark(a: u8) -> Option<Piece>
         b'^' => sign(Sign::Caret),
         b'~' => sign(Sign::Tilde),
         b'!' => sign(Sign::Bang),
-        b'#' => Some(Piece::Refused(Refusal::Symbol)),
+        b'#' => Some(PieceClass::Refused(LexReason::Symbol)),
         _ => None,
     }
 }
 
-fn two_mark(a: u8, b: u8) -> Option<Piece>
+fn two_mark(a: u8, b: u8) -> Option<PieceClass>
     ensures { result ≡ two_mark a b }
 {
     match (a, b) {
         (b'.', b'.') => sign(Sign::DotDot),
-        (b'.', _) if is_digit(b) => Some(Piece::Refused(Refusal::Fraction)),
+        (b'.', _) if is_digit(b) => Some(PieceClass::Refused(LexReason::Fraction)),
         (b'=', b'>') => sign(Sign::Arrow),
         (b'=', b'=') => sign(Sign::EqualEqual),
         (b'!', b'=') => sign(Sign::NotEqual),
@@ -72,23 +72,23 @@ fn two_mark(a: u8, b: u8) -> Option<Piece>
         (b'/', b'=') => sign(Sign::SlashAssign),
         (b'%', b'=') => sign(Sign::PercentAssign),
         (b'^', b'=') => sign(Sign::CaretAssign),
-        (b'?', b'?') | (b'?', b'.') => Some(Piece::Refused(Refusal::NullAware)),
+        (b'?', b'?') | (b'?', b'.') => Some(PieceClass::Refused(LexReason::NullAware)),
         _ => None,
     }
 }
 
-fn three_mark(a: u8, b: u8, c: u8) -> Option<Piece>
+fn three_mark(a: u8, b: u8, c: u8) -> Option<PieceClass>
     ensures { result ≡ three_mark a b c }
 {
     match (a, b, c) {
         (b'~', b'/', b'=') => sign(Sign::TildeSlashAssign),
         (b'<', b'<', b'=') => sign(Sign::ShiftLeftAssign),
-        (b'?', b'?', b'=') => Some(Piece::Refused(Refusal::NullAware)),
+        (b'?', b'?', b'=') => Some(PieceClass::Refused(LexReason::NullAware)),
         _ => None,
     }
 }
 
-fn first_mark(text: &[u8]) -> Option<Piece>
+fn first_mark(text: &[u8]) -> Option<PieceClass>
     ensures { result ≡ first_mark text.now }
 {
     match text {
@@ -97,7 +97,7 @@ fn first_mark(text: &[u8]) -> Option<Piece>
     }
 }
 
-fn second_mark(text: &[u8]) -> Option<Piece>
+fn second_mark(text: &[u8]) -> Option<PieceClass>
     ensures { result ≡ second_mark text.now }
 {
     match text {
@@ -106,7 +106,7 @@ fn second_mark(text: &[u8]) -> Option<Piece>
     }
 }
 
-fn third_mark(text: &[u8]) -> Option<Piece>
+fn third_mark(text: &[u8]) -> Option<PieceClass>
     ensures { result ≡ third_mark text.now }
 {
     match text {
@@ -116,7 +116,7 @@ fn third_mark(text: &[u8]) -> Option<Piece>
 }
 
 // The longest sign or refused mark at the front of the text, or an unknown byte.
-pub(crate) fn mark_at(text: &[u8]) -> (Piece, usize)
+pub(crate) fn mark_at(text: &[u8]) -> (PieceClass, usize)
     ensures { result ≡ mark_at text.now }
 {
     if let Some(piece) = third_mark(text) {
@@ -128,5 +128,5 @@ pub(crate) fn mark_at(text: &[u8]) -> (Piece, usize)
     if let Some(piece) = first_mark(text) {
         return (piece, 1);
     }
-    (Piece::Refused(Refusal::Unknown), 1)
+    (PieceClass::Refused(LexReason::Unknown), 1)
 }

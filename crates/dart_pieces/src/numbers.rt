@@ -1,13 +1,12 @@
 // Integers and doubles.
 ghost use Rattle.std.specs.Prelude.{◌≡◌, ◌<◌, ◌≤◌, ◌^◌, ◌+◌, ◌*◌, length, drop, nat_lt, if◌then◌else◌};
-ghost use Rattle.dart_pieces.specs.Numbers.{digit, value_in, integer_value, integer_limit};
+ghost use Rattle.dart_pieces.specs.Numbers.{digit, value_in, integer_value};
 ghost use Rattle.dart_pieces.specs.Reader.{hex_len, double_len, decimal_at, number_at};
 
 use crate::bytes::{digits_len, hex_digits_len, is_digit, is_exponent, is_plus_or_minus, is_x};
-use crate::piece::{Piece, Refusal};
+use crate::piece::{LexReason, PieceClass};
+use dart_base::limit::GREATEST_INTEGER;
 use dart_token::token::TokenKind;
-
-const INTEGER_LIMIT: u128 = 170141183460469231731687303715884105727;
 
 fn digit(b: u8) -> u8
     ensures { result ≡ digit b }
@@ -23,7 +22,8 @@ fn digit(b: u8) -> u8
 
 // The value with one more digit, where it is within the limit.
 fn next_value(limit: u128, base: u8, value: u128, digit: u8) -> Option<u128>
-    ensures { result ≡ (if nat_lt limit (value * base + digit) then None else Some (value * base + digit)) }
+    ensures { let sum = value * base + digit in
+        result ≡ (if nat_lt limit sum then None else Some sum) }
 {
     let sum = value
         .checked_mul(u128::from(base))?
@@ -46,13 +46,13 @@ pub(crate) fn exceeds(limit: u128, base: u8, digits: &[u8]) -> bool
     false
 }
 
-/// Whether the value of an integer is above 2^127 - 1.
+/// Whether the value of an integer is above the greatest, 2^127 - 1.
 pub fn is_too_large(integer: &[u8]) -> bool
-    ensures { result ≡ nat_lt integer_limit (integer_value integer.now) }
+    ensures { result ≡ nat_lt GREATEST_INTEGER (integer_value integer.now) }
 {
     match integer {
-        [_, x, digits @ ..] if is_x(*x) => exceeds(INTEGER_LIMIT, 16, digits),
-        _ => exceeds(INTEGER_LIMIT, 10, integer),
+        [_, x, digits @ ..] if is_x(*x) => exceeds(GREATEST_INTEGER, 16, digits),
+        _ => exceeds(GREATEST_INTEGER, 10, integer),
     }
 }
 
@@ -77,24 +77,24 @@ fn double_len(text: &[u8]) -> usize
     }
 }
 
-fn decimal_at(length: usize, tail: usize) -> (Piece, usize)
+fn decimal_at(length: usize, tail: usize) -> (PieceClass, usize)
     requires digits { length < 2 ^ 63 }
     requires tails { tail ≤ 3 }
     ensures { result ≡ decimal_at length tail }
 {
     if tail == 0 {
-        return (Piece::Lexeme(TokenKind::Integer), length);
+        return (PieceClass::Lexeme(TokenKind::Integer), length);
     }
-    (Piece::Refused(Refusal::Fraction), length + tail)
+    (PieceClass::Refused(LexReason::Fraction), length + tail)
 }
 
 /// The number at the front of a text that begins with a digit.
-pub(crate) fn number_at(text: &[u8]) -> (Piece, usize)
+pub(crate) fn number_at(text: &[u8]) -> (PieceClass, usize)
     ensures { result ≡ number_at text.now }
 {
     let hex = hex_len(text);
     if hex > 0 {
-        return (Piece::Lexeme(TokenKind::Integer), 2 + hex);
+        return (PieceClass::Lexeme(TokenKind::Integer), 2 + hex);
     }
     let length = digits_len(text);
     decimal_at(length, double_len(&text[length..]))

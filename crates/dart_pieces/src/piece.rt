@@ -1,16 +1,16 @@
-// The pieces of a text.
+// The classes of the pieces of a text.
 use dart_token::token::TokenKind;
 
 /// Why a piece is refused.
 #[derive(Clone, Copy, Debug, PartialEq, Eq)]
-pub enum Refusal {
+pub enum LexReason {
     /// It begins no token, or what it begins is not closed.
     Unknown,
     /// `r` and the quote of a raw string that is not closed.
     OpenRaw,
     /// Three quotes, which may have an `r` before them.
     TripleQuotes,
-    /// The front of a double, up to its first digit behind `.` or `e`.
+    /// A prefix of a double, up to its first digit behind `.` or `e`.
     Fraction,
     /// `??`, `?.` or `??=`
     NullAware,
@@ -18,9 +18,9 @@ pub enum Refusal {
     Symbol,
 }
 
-/// What a piece of a text is.
+/// What a piece of a text is (ECMA-408, 20.1 Lexical Rules).
 #[derive(Clone, Copy, Debug, PartialEq, Eq)]
-pub enum Piece {
+pub enum PieceClass {
     /// Blanks, tabs and ends of lines.
     Blank,
     /// A comment.
@@ -28,5 +28,5 @@ pub enum Piece {
     /// A token.
     Lexeme(TokenKind),
     /// What the language or its profile refuses.
-    Refused(Refusal),
+    Refused(LexReason),
 }

@@ -1,6 +1,6 @@
 // The piece at the front of a text.
 ghost use Rattle.std.specs.Prelude.{◌≡◌, ◌<◌, ◌≤◌, ◌+◌, length, drop};
-ghost use Rattle.dart_pieces.specs.Cuts.{Longest, cell};
+ghost use Rattle.dart_pieces.specs.Cuts.{Longest, found_piece};
 ghost use Rattle.dart_pieces.specs.Marks.{mark_at};
 ghost use Rattle.dart_pieces.specs.Reader.{name_kind, name_found, raw_quote, letter_at, closes_around, string_or, piece_at};
 
@@ -8,7 +8,7 @@ use crate::bytes::{after_two, blanks_len, is_blank, is_digit, is_letter, word_le
 use crate::comments::{block_at, comment_len, is_block, is_comment};
 use crate::marks::mark_at;
 use crate::numbers::number_at;
-use crate::piece::{Piece, Refusal};
+use crate::piece::{LexReason, PieceClass};
 use crate::strings::{quote_of, quoted_at, raw_at, string_at};
 use dart_token::token::{Quote, TokenKind};
 use dart_token::word::Word;
@@ -22,11 +22,14 @@ fn name_kind(word: Option<Word>) -> TokenKind
     }
 }
 
-fn name_found(bytes: usize, text: &[u8]) -> (Piece, usize)
+fn name_found(bytes: usize, text: &[u8]) -> (PieceClass, usize)
     requires { bytes ≤ length text.now }
     ensures { result ≡ name_found bytes text.now }
 {
-    (Piece::Lexeme(name_kind(Word::of(&text[..bytes]))), bytes)
+    (
+        PieceClass::Lexeme(name_kind(Word::of(&text[..bytes]))),
+        bytes,
+    )
 }
 
 fn raw_quote(text: &[u8]) -> Option<Quote>
@@ -38,7 +41,7 @@ fn raw_quote(text: &[u8]) -> Option<Quote>
     }
 }
 
-fn letter_at(text: &[u8]) -> (Piece, usize)
+fn letter_at(text: &[u8]) -> (PieceClass, usize)
     ensures { result ≡ letter_at text.now }
 {
     if let Some(quote) = raw_quote(text) {
@@ -56,7 +59,7 @@ fn closes_around(around: Option<Quote>, b: u8) -> Option<Quote>
     None
 }
 
-fn string_or_mark(inner: Option<Quote>, around: Option<Quote>, text: &[u8]) -> (Piece, usize)
+fn string_or_mark(inner: Option<Quote>, around: Option<Quote>, text: &[u8]) -> (PieceClass, usize)
     requires { 0 < length text.now }
     ensures { result ≡ string_or inner around (drop 1 text.now) (mark_at text.now) }
 {
@@ -66,8 +69,8 @@ fn string_or_mark(inner: Option<Quote>, around: Option<Quote>, text: &[u8]) -> (
     if let Some(quote) = around {
         return string_at(
             quote,
-            Piece::Lexeme(TokenKind::Tail),
-            Piece::Lexeme(TokenKind::Middle),
+            PieceClass::Lexeme(TokenKind::Tail),
+            PieceClass::Lexeme(TokenKind::Middle),
             &text[1..],
         );
     }
@@ -75,11 +78,11 @@ fn string_or_mark(inner: Option<Quote>, around: Option<Quote>, text: &[u8]) -> (
 }
 
 // The piece at the front of the text, and how many bytes it has.
-fn piece_at(around: Option<Quote>, text: &[u8]) -> (Piece, usize)
+fn piece_at(around: Option<Quote>, text: &[u8]) -> (PieceClass, usize)
     ensures { result ≡ piece_at around text.now }
 {
     if text.is_empty() {
-        return (Piece::Refused(Refusal::Unknown), 0);
+        return (PieceClass::Refused(LexReason::Unknown), 0);
     }
     let first = text[0];
     if is_letter(first) {
@@ -89,10 +92,10 @@ fn piece_at(around: Option<Quote>, text: &[u8]) -> (Piece, usize)
         return number_at(text);
     }
     if is_blank(first) {
-        return (Piece::Blank, blanks_len(text));
+        return (PieceClass::Blank, blanks_len(text));
     }
     if is_comment(text) {
-        return (Piece::Comment, comment_len(text));
+        return (PieceClass::Comment, comment_len(text));
     }
     if is_block(text) {
         return block_at(text);
@@ -103,9 +106,9 @@ fn piece_at(around: Option<Quote>, text: &[u8]) -> (Piece, usize)
 /// The longest piece at the front of a text, where that is open innermost, and how many bytes it has.
 ///
 /// A text that isn't empty begins with a piece of some class, and with one longest piece.
-pub fn next_piece(around: Option<Quote>, text: &[u8]) -> (Piece, usize)
+pub fn next_piece(around: Option<Quote>, text: &[u8]) -> (PieceClass, usize)
     requires { 0 < length text.now }
-    ensures longest { Longest around (cell result text.now) (drop result.1 text.now) }
+    ensures longest { Longest around (found_piece result text.now) (drop result.1 text.now) }
     ensures within { result.1 ≤ length text.now }
     ensures some { 0 < result.1 }
 {

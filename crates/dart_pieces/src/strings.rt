@@ -6,7 +6,7 @@ ghost use Rattle.dart_pieces.specs.Reader.{begins_two_hex, begins_four_hex, brac
 
 use crate::bytes::{begins, hex_digits_len, is_hex_digit, is_inner, is_name_start, name_len};
 use crate::numbers::exceeds;
-use crate::piece::{Piece, Refusal};
+use crate::piece::{LexReason, PieceClass};
 use dart_token::token::{Quote, TokenKind};
 use dart_token::word::Word;
 
@@ -111,6 +111,7 @@ fn may_follow(word: Option<Word>) -> bool
 }
 
 // The length of a name whose `$` stands before the text, with the `$`, or 0.
+#[tactic(auto, using(dart_token::proofs::Words::found_only))]
 fn shown_len(text: &[u8]) -> usize
     ensures { result ≡ shown_len text.now }
 {
@@ -162,20 +163,31 @@ fn body_len(quote: Quote, text: &[u8]) -> usize
     }
 }
 
-fn string_end(quote: Quote, ended: Piece, head: Piece, length: usize, rest: &[u8]) -> (Piece, usize)
+fn string_end(
+    quote: Quote,
+    ended: PieceClass,
+    head: PieceClass,
+    length: usize,
+    rest: &[u8],
+) -> (PieceClass, usize)
     requires { length < 2 ^ 63 }
     ensures { result ≡ string_end quote ended head length rest.now }
 {
     match rest {
         [a, ..] if *a == quote_byte(quote) => (ended, 2 + length),
         [b'$', b'{', ..] => (head, 3 + length),
-        _ => (Piece::Refused(Refusal::Unknown), 1),
+        _ => (PieceClass::Refused(LexReason::Unknown), 1),
     }
 }
 
 /// The piece of a string whose first byte stands before the text: the last one of its string, or one that ends in an
 /// interpolation.
-pub(crate) fn string_at(quote: Quote, ended: Piece, head: Piece, text: &[u8]) -> (Piece, usize)
+pub(crate) fn string_at(
+    quote: Quote,
+    ended: PieceClass,
+    head: PieceClass,
+    text: &[u8],
+) -> (PieceClass, usize)
     ensures { result ≡ string_at quote ended head text.now }
 {
     let length = body_len(quote, text);
@@ -192,16 +204,16 @@ fn begins_quotes(quote: Quote, text: &[u8]) -> bool
 }
 
 /// The string whose quote stands before the text.
-pub(crate) fn quoted_at(quote: Quote, text: &[u8]) -> (Piece, usize)
+pub(crate) fn quoted_at(quote: Quote, text: &[u8]) -> (PieceClass, usize)
     ensures { result ≡ quoted_at quote text.now }
 {
     if begins_quotes(quote, text) {
-        return (Piece::Refused(Refusal::TripleQuotes), 3);
+        return (PieceClass::Refused(LexReason::TripleQuotes), 3);
     }
     string_at(
         quote,
-        Piece::Lexeme(TokenKind::Whole),
-        Piece::Lexeme(TokenKind::Head(quote)),
+        PieceClass::Lexeme(TokenKind::Whole),
+        PieceClass::Lexeme(TokenKind::Head(quote)),
         text,
     )
 }
@@ -219,22 +231,22 @@ fn raw_len(quote: Quote, text: &[u8]) -> usize
     text.iter().take_while(|b| in_raw(quote, **b)).count()
 }
 
-fn raw_end(quote: Quote, length: usize, rest: &[u8]) -> (Piece, usize)
+fn raw_end(quote: Quote, length: usize, rest: &[u8]) -> (PieceClass, usize)
     requires { length < 2 ^ 63 }
     ensures { result ≡ raw_end quote length rest.now }
 {
     if begins(quote_byte(quote), rest) {
-        return (Piece::Lexeme(TokenKind::Whole), 3 + length);
+        return (PieceClass::Lexeme(TokenKind::Whole), 3 + length);
     }
-    (Piece::Refused(Refusal::OpenRaw), 2)
+    (PieceClass::Refused(LexReason::OpenRaw), 2)
 }
 
 /// The raw string whose `r` and quote stand before the text.
-pub(crate) fn raw_at(quote: Quote, text: &[u8]) -> (Piece, usize)
+pub(crate) fn raw_at(quote: Quote, text: &[u8]) -> (PieceClass, usize)
     ensures { result ≡ raw_at quote text.now }
 {
     if begins_quotes(quote, text) {
-        return (Piece::Refused(Refusal::TripleQuotes), 4);
+        return (PieceClass::Refused(LexReason::TripleQuotes), 4);
     }
     let length = raw_len(quote, text);
     raw_end(quote, length, &text[length..])

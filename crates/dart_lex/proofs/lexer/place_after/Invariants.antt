@@ -1,5 +1,5 @@
 use Rattle.std.proofs.Common.{◌≡◌, ◌+◌, ◌≤◌, take}
-use Rattle.dart_lex.specs.Faults.{after}
+use Rattle.dart_lex.specs.Spelling.{after}
 use Rattle.dart_lex.proofs.lexer.place_after.Given as goal
 
 abbrev pub invariant-loop-byte : goal.invariant-loop-byte
