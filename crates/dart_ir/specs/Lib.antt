@@ -1,2 +1,5 @@
 pub mod Ty
 pub mod Classes
+pub mod Integer
+pub mod Kind
+pub mod Object

@@ -6,24 +6,34 @@ use Rattle.dart_ir.specs.declared.types.NamedType.{NamedType}
 use Rattle.dart_ir.specs.declared.types.TypeRef.TheOpen.{TypeRef-F, FunctionType-F, NamedType-F, Dynamic, Bottom, Void, Class, Param, Function}
 use Rattle.dart_ir.specs.declared.types.TypeRef.TheFolds.{fold-TypeRef, fold-FunctionType, fold-NamedType}
 
+-- a type in which a name of a parameter is an N: its number, or its text
 mutual
-  pub data Ty : Type 0 where
-    dynamic : Ty
-    bottom : Ty
-    void : Ty
-    class : ℕ → Tys → Ty
-    parameter : ℕ → Ty
+  pub data TyOf (N : Type 0) : Type 0 where
+    dynamic : TyOf N
+    bottom : TyOf N
+    void : TyOf N
+    class : ℕ → TysOf N → TyOf N
+    parameter : ℕ → TyOf N
     -- the result, the required and the optional positional parameters, and the named ones
-    function : Ty → Tys → Tys → NamedTys → Ty
+    function : TyOf N → TysOf N → TysOf N → NamedTysOf N → TyOf N
 
-  pub data Tys : Type 0 where
-    nil : Tys
-    cons : Ty → Tys → Tys
+  pub data TysOf (N : Type 0) : Type 0 where
+    nil : TysOf N
+    cons : TyOf N → TysOf N → TysOf N
 
   -- names of parameters with their types
-  pub data NamedTys : Type 0 where
-    unnamed : NamedTys
-    named : ℕ → Ty → NamedTys → NamedTys
+  pub data NamedTysOf (N : Type 0) : Type 0 where
+    unnamed : NamedTysOf N
+    named : N → TyOf N → NamedTysOf N → NamedTysOf N
+
+abbrev pub Ty : Type 0
+Ty = TyOf ℕ
+
+abbrev pub Tys : Type 0
+Tys = TysOf ℕ
+
+abbrev pub NamedTys : Type 0
+NamedTys = NamedTysOf ℕ
 
 abbrev pub of_list : List Ty → Tys
 of_list [] = nil

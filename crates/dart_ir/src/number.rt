@@ -4,7 +4,7 @@
 #[derive(Clone, Copy, Debug, PartialEq, Eq, PartialOrd, Ord)]
 pub struct ClassId(pub u32);
 
-/// A declaration of the program, in the order of units and tokens.
+/// A declaration of the program, in the order of units and tokens; those that translation adds come after.
 #[derive(Clone, Copy, Debug, PartialEq, Eq, PartialOrd, Ord)]
 pub struct DeclId(pub u32);
 
@@ -12,14 +12,10 @@ pub struct DeclId(pub u32);
 #[derive(Clone, Copy, Debug, PartialEq, Eq, PartialOrd, Ord)]
 pub struct MemberId(pub u32);
 
-/// A place at which checked mode may test a value.
+/// A place at which checked mode may test a value, as its place in the program's list of sites.
 #[derive(Clone, Copy, Debug, PartialEq, Eq, PartialOrd, Ord)]
 pub struct SiteId(pub u32);
 
-/// A native function.
-#[derive(Clone, Copy, Debug, PartialEq, Eq, PartialOrd, Ord)]
-pub struct NativeId(pub u32);
-
-/// An object of an isolate's store.
+/// An object of an isolate's store, in the order in which they were added.
 #[derive(Clone, Copy, Debug, PartialEq, Eq, PartialOrd, Ord)]
 pub struct Ref(pub u64);

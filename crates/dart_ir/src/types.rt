@@ -10,7 +10,6 @@ use std::alloc::{AllocError, Global};
 pub type Types = Vec<TypeRef>;
 
 /// A type (ECMA-408, Types).
-#[derive(Drop)]
 #[cycle(types)]
 pub enum TypeRef {
     /// The type `dynamic`; a malformed annotation counts as it.
@@ -25,6 +24,21 @@ pub enum TypeRef {
     Param(u32),
     /// A function type, as a typedef or a function-typed parameter writes it.
     Function(Box<FunctionType>),
+}
+
+// The enum implements the trait itself, so a crate above need not prove again what a type holds.
+impl Drop for TypeRef {
+    #[cycle(drops)]
+    fn drop(self) {
+        match self {
+            TypeRef::Dynamic => {}
+            TypeRef::Bottom => {}
+            TypeRef::Void => {}
+            TypeRef::Class(_, _) => {}
+            TypeRef::Param(_) => {}
+            TypeRef::Function(_) => {}
+        }
+    }
 }
 
 /// A function type: its result and its parameters.
@@ -45,74 +59,88 @@ pub struct NamedType {
     pub of: TypeRef,
 }
 
-/// A copy of a type.
-#[cycle(copying)]
-#[tactic(auto, using(crate::proofs::View::views))]
-pub fn copy(alloc: Global, t: &TypeRef) -> Result<TypeRef, AllocError>
-    ensures { IfOk result (λ u. ty u ≡ ty t.now) }
-{
-    match t {
-        TypeRef::Dynamic => Ok(TypeRef::Dynamic),
-        TypeRef::Bottom => Ok(TypeRef::Bottom),
-        TypeRef::Void => Ok(TypeRef::Void),
-        TypeRef::Class(c, ts) => Ok(TypeRef::Class(*c, copy_all(alloc, ts)?)),
-        TypeRef::Param(i) => Ok(TypeRef::Param(*i)),
-        TypeRef::Function(f) => Ok(TypeRef::Function(Box::new(alloc, copy_function(alloc, f)?)?)),
+impl TypeRef {
+    /// An equal type.
+    #[cycle(copying)]
+    #[tactic(auto, using(crate::proofs::View::views))]
+    pub fn try_clone(&self, alloc: Global) -> Result<TypeRef, AllocError>
+        ensures { IfOk result (λ copy. ty copy ≡ ty self.now) }
+    {
+        match self {
+            TypeRef::Dynamic => Ok(TypeRef::Dynamic),
+            TypeRef::Bottom => Ok(TypeRef::Bottom),
+            TypeRef::Void => Ok(TypeRef::Void),
+            TypeRef::Class(class, args) => Ok(TypeRef::Class(
+                *class,
+                try_clone_types(alloc, args)?,
+            )),
+            TypeRef::Param(index) => Ok(TypeRef::Param(*index)),
+            TypeRef::Function(function) => {
+                Ok(TypeRef::Function(Box::new(alloc, function.try_clone(alloc)?)?))
+            }
+        }
     }
 }
 
-/// Copies of the types of a list.
+/// Equal types in the same order.
 #[cycle(copying)]
 #[tactic(auto, using(crate::proofs::View::views))]
-pub fn copy_all(alloc: Global, ts: &[TypeRef]) -> Result<Types, AllocError>
-    ensures { IfOk result (λ v. map ty v.items ≡ map ty ts.now) }
+pub fn try_clone_types(alloc: Global, types: &[TypeRef]) -> Result<Types, AllocError>
+    ensures { IfOk result (λ copies. map ty copies.items ≡ map ty types.now) }
 {
-    let mut v = Vec::new(alloc);
-    for t in ts {
-        v.push(copy(alloc, t)?)?;
+    let mut copies = Vec::new(alloc);
+    for one in types {
+        copies.push(one.try_clone(alloc)?)?;
     }
-    Ok(v)
+    Ok(copies)
 }
 
-/// A copy of a function type.
-#[cycle(copying)]
-#[tactic(auto, using(crate::proofs::View::views))]
-pub fn copy_function(alloc: Global, f: &FunctionType) -> Result<FunctionType, AllocError>
-    ensures { IfOk result (λ g. function_ty g ≡ function_ty f.now) }
-{
-    let result = copy(alloc, &f.result)?;
-    let required = copy_all(alloc, &f.required)?;
-    let optional = copy_all(alloc, &f.optional)?;
-    let named = copy_named(alloc, &f.named)?;
-    Ok(FunctionType {
-        result,
-        required,
-        optional,
-        named,
-    })
-}
-
-/// Copies of named parameters.
-#[cycle(copying)]
-#[tactic(auto, using(crate::proofs::View::views))]
-pub fn copy_named(alloc: Global, ns: &[NamedType]) -> Result<Vec<NamedType>, AllocError>
-    ensures { IfOk result (λ v. map named_ty v.items ≡ map named_ty ns.now) }
-{
-    let mut v = Vec::new(alloc);
-    for n in ns {
-        v.push(copy_parameter(alloc, n)?)?;
+impl FunctionType {
+    /// An equal function type.
+    #[cycle(copying)]
+    #[tactic(auto, using(crate::proofs::View::views))]
+    pub fn try_clone(&self, alloc: Global) -> Result<FunctionType, AllocError>
+        ensures { IfOk result (λ copy. function_ty copy ≡ function_ty self.now) }
+    {
+        let result = self.result.try_clone(alloc)?;
+        let required = try_clone_types(alloc, &self.required)?;
+        let optional = try_clone_types(alloc, &self.optional)?;
+        let named = try_clone_named_types(alloc, &self.named)?;
+        Ok(FunctionType {
+            result,
+            required,
+            optional,
+            named,
+        })
     }
-    Ok(v)
 }
 
-/// A copy of a named parameter.
+/// Equal named parameters in the same order.
 #[cycle(copying)]
 #[tactic(auto, using(crate::proofs::View::views))]
-fn copy_parameter(alloc: Global, n: &NamedType) -> Result<NamedType, AllocError>
-    ensures { IfOk result (λ m. named_ty m ≡ named_ty n.now) }
+pub fn try_clone_named_types(
+    alloc: Global,
+    named: &[NamedType],
+) -> Result<Vec<NamedType>, AllocError>
+    ensures { IfOk result (λ copies. map named_ty copies.items ≡ map named_ty named.now) }
 {
-    Ok(NamedType {
-        name: n.name,
-        of: copy(alloc, &n.of)?,
-    })
+    let mut copies = Vec::new(alloc);
+    for one in named {
+        copies.push(one.try_clone(alloc)?)?;
+    }
+    Ok(copies)
+}
+
+impl NamedType {
+    /// An equal named parameter.
+    #[cycle(copying)]
+    #[tactic(auto, using(crate::proofs::View::views))]
+    pub fn try_clone(&self, alloc: Global) -> Result<NamedType, AllocError>
+        ensures { IfOk result (λ copy. named_ty copy ≡ named_ty self.now) }
+    {
+        Ok(NamedType {
+            name: self.name,
+            of: self.of.try_clone(alloc)?,
+        })
+    }
 }
