@@ -1,4 +1,4 @@
--- Comparisons of interned types that are decided.
+-- Means of proof, which no public contract cites: comparisons of interned types that are decided.
 use Rattle.std.specs.Prelude.{◌≡◌, ℕ, ◌<◌, ◌↔◌, List, [], ◌∷◌, Bool, IsTrue, length, ◌⊎◌}
 use Rattle.dart_type.specs.declared.intern.Node.{Node}
 use Rattle.dart_type.specs.declared.search.Answer.{Answer}
@@ -21,7 +21,8 @@ AreRight k ns [] = Unit {0}
 AreRight k ns (a ∷ bs) = IsRight k ns a × AreRight k ns bs
 
 -- after it: more nodes, right answers, and what the answer says in terms of before
-pub record Decides (k : Table) (old new : List Node) (kept : List Answer) (b : Bool) (P : Type 0) : Type 0 where
+pub record Decides (k : Table) (old new : List Node) (kept : List Answer) (b : Bool) (P : Type 0) :
+    Type 0 where
   pub grows : Grows old new
   pub right : AreRight k new kept
   pub says : IsTrue b ↔ P

@@ -1,4 +1,5 @@
--- The clauses of a comparison over the numbers of interned types.
+-- Means of proof, which no public contract cites: the clauses of a comparison over the numbers of
+-- interned types.
 use Rattle.std.specs.Prelude.{◌≡◌, ℕ, ◌<◌, List, [], ◌∷◌, ◌++◌, Bool, true, false, cond, nat_eq, nat_le, map, length}
 use Rattle.std.specs.Global.{Vec}
 use Rattle.dart_ir.specs.Ty.{Ty, Tys, NamedTys, bottom, void, function, nil, cons, unnamed, named}
@@ -55,7 +56,9 @@ named_pairs n unnamed = []
 named_pairs n (named x v vs) = named_pair_ways n x v ∷ named_pairs n vs
 
 abbrev pub rule_pairs : Ty → Ty → List (List Goal)
-rule_pairs (function r q o n) (function s p e m) = result_pairs r s ++ (truth (nat_le (count q) (count p)) ++ (positional_pairs (append q o) (append p e) ++ named_pairs n m))
+rule_pairs (function r q o n) (function s p e m) = result_pairs r s
+    ++ (truth (nat_le (count q) (count p))
+    ++ (positional_pairs (append q o) (append p e) ++ named_pairs n m))
 rule_pairs _ _ = []
 
 -- the comparisons that make each pair assignable
@@ -78,7 +81,8 @@ pub record GivesWays (old new : List Node) (ws : List Comparison) (gs : List Goa
   pub listed : AreListed (length new) ws
   pub are : ways_of (types new) ws ≡ gs
 
-pub record GivesClauses (old new : List Node) (cs : List (Vec Comparison)) (gs : List (List Goal)) : Type 0 where
+pub record GivesClauses (old new : List Node) (cs : List (Vec Comparison)) (gs : List (List Goal)) :
+    Type 0 where
   pub grows : Grows old new
   pub listed : AllListed (length new) cs
   pub are : clauses_of (types new) cs ≡ gs

@@ -1,4 +1,5 @@
--- Interned types: a list of nodes, each over nodes before it.
+-- Means of proof, which no public contract cites: interned types, a list of nodes, each over nodes
+-- before it.
 use Rattle.std.specs.Prelude.{◌≡◌, ℕ, ◌<◌, ◌≤◌, List, [], ◌∷◌, ◌++◌, length, map, All, slice_index_or}
 use Rattle.dart_ir.specs.Ty.{Ty, Tys, NamedTys, dynamic, bottom, void, class, function, of_list, of_named}
 use Rattle.dart_type.specs.declared.intern.NamedNode.{NamedNode}
@@ -25,7 +26,8 @@ node_type ts Dynamic = dynamic
 node_type ts Bottom = bottom
 node_type ts Void = void
 node_type ts (Class c is) = class c (reads ts is.items)
-node_type ts (Function f) = function (read ts f.result) (reads ts f.required.items) (reads ts f.optional.items) (named_reads ts f.named.items)
+node_type ts (Function f) = function (read ts f.result) (reads ts f.required.items)
+    (reads ts f.optional.items) (named_reads ts f.named.items)
 
 unfoldable pub grow : List Ty → List Node → List Ty
 grow ts [] = ts
@@ -47,12 +49,14 @@ IsOver n Dynamic = Unit {0}
 IsOver n Bottom = Unit {0}
 IsOver n Void = Unit {0}
 IsOver n (Class c is) = AreBelow n is.items
-IsOver n (Function f) = (f.result < n) × AreBelow n f.required.items × AreBelow n f.optional.items × AreNamedBelow n f.named.items
+IsOver n (Function f) = (f.result < n) × AreBelow n f.required.items
+    × AreBelow n f.optional.items × AreNamedBelow n f.named.items
 
 -- each node is over nodes before it, and so has the type that it shows
 pub record IsBuilt (ns : List Node) : Type 0 where
   pub over : (i : ℕ) (n : Node) → i < length ns → IsOver i (slice_index_or ns i n)
-  pub shows : (i : ℕ) (n : Node) → i < length ns → read (types ns) i ≡ node_type (types ns) (slice_index_or ns i n)
+  pub shows : (i : ℕ) (n : Node) → i < length ns
+      → read (types ns) i ≡ node_type (types ns) (slice_index_or ns i n)
 
 -- the node of number t
 pub record IsNodeOf (ns : List Node) (t : ℕ) (n : Node) : Type 0 where
@@ -65,7 +69,8 @@ IsCopy Dynamic Dynamic = Unit {0}
 IsCopy Bottom Bottom = Unit {0}
 IsCopy Void Void = Unit {0}
 IsCopy (Class c is) (Class d js) = (c ≡ d) × (is.items ≡ js.items)
-IsCopy (Function f) (Function g) = (f.result ≡ g.result) × (f.required.items ≡ g.required.items) × (f.optional.items ≡ g.optional.items) × (f.named.items ≡ g.named.items)
+IsCopy (Function f) (Function g) = (f.result ≡ g.result)
+    × (f.required.items ≡ g.required.items) × (f.optional.items ≡ g.optional.items) × (f.named.items ≡ g.named.items)
 IsCopy m n = ⊥
 
 -- more nodes, and the old ones with the types that they had

@@ -1,8 +1,9 @@
 pub mod Instance
-pub mod Intern
-pub mod Relation
-pub mod Search
-pub mod Clauses
-pub mod Answers
 pub mod Member
+pub mod Relation
+-- means of proof
+pub mod Answers
+pub mod Clauses
+pub mod Intern
+pub mod Search
 pub mod Testing

@@ -12,48 +12,51 @@ use Rattle.dart_ir.specs.declared.class.MemberInfo.{MemberInfo}
 use Rattle.dart_ir.specs.declared.class.Classes.{Classes}
 
 abbrev pub class_number : Ty → Option ℕ
-class_number (class c ts) = Some c
+class_number (class c given) = Some c
 class_number _ = None
 
 -- the number of the superclass, where there is one
 abbrev pub superclass_number : Option TypeRef → Option ℕ
 superclass_number None = None
-superclass_number (Some u) = class_number (ty u)
+superclass_number (Some superclass) = class_number (ty superclass)
 
 abbrev pub superclass_in : Option ClassInfo → Option ℕ
 superclass_in None = None
-superclass_in (Some i) = superclass_number i.superclass
+superclass_in (Some info) = superclass_number info.superclass
 
 -- The chain of a class: the list from it to the class without a superclass.
-pub data IsChain (k : Classes) : ℕ → List ℕ → Type 0 where
-  ends : (c : ℕ) → superclass_in (class_at k c) ≡ None → IsChain k c (c ∷ [])
-  goes : (c e : ℕ) (cs : List ℕ) → superclass_in (class_at k c) ≡ Some e → IsChain k e cs → IsChain k c (c ∷ cs)
+pub data IsChain (classes : Classes) : ℕ → List ℕ → Type 0 where
+  ends : (c : ℕ) → superclass_in (class_at classes c) ≡ None → IsChain classes c (c ∷ [])
+  goes : (c superclass : ℕ) (chain : List ℕ) → superclass_in (class_at classes c) ≡ Some superclass
+      → IsChain classes superclass chain → IsChain classes c (c ∷ chain)
 
 abbrev pub same_role : Role → Role → Bool
 same_role Method Method = true
 same_role Getter Getter = true
 same_role Setter Setter = true
-same_role a b = false
+same_role role other = false
 
 abbrev pub is_declaration : Option MemberInfo → Name → Role → Bool
 is_declaration None name role = false
-is_declaration (Some m) name role = m.name.0 == name.0 && (same_role m.role role && m.has_body)
+is_declaration (Some info) name role =
+    info.name.0 == name.0 && (same_role info.role role && info.has_body)
 
 -- Whether a member has that name and role. One without a body is no declaration.
 abbrev pub declares : Classes → Name → Role → MemberId → Bool
-declares k name role m = is_declaration (member_at k m.0) name role
+declares classes name role member = is_declaration (member_at classes member.0) name role
 
 abbrev pub members_in : Option ClassInfo → List MemberId
 members_in None = []
-members_in (Some i) = i.members.items
+members_in (Some info) = info.members.items
 
 -- the members of the classes in order
 abbrev pub members_along : Classes → List ℕ → List MemberId
-members_along k [] = []
-members_along k (c ∷ cs) = members_in (class_at k c) ++ members_along k cs
+members_along classes [] = []
+members_along classes (c ∷ chain) = members_in (class_at classes c) ++ members_along classes chain
 
 -- the first declaration on the chain of the class, or none
-pub record IsFirstMember (k : Classes) (c : ℕ) (name : Name) (role : Role) (m : Option MemberId) : Type 0 where
+pub record IsFirstMember (classes : Classes) (c : ℕ) (name : Name) (role : Role)
+    (found : Option MemberId) : Type 0 where
   pub chain : List ℕ
-  pub is_chain : IsChain k c chain
-  pub first : m ≡ find (declares k name role) (members_along k chain)
+  pub is_chain : IsChain classes c chain
+  pub first : found ≡ find (declares classes name role) (members_along classes chain)

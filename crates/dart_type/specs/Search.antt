@@ -1,4 +1,5 @@
--- How the search takes a comparison of types apart: into clauses, each of which asks for one of several comparisons.
+-- Means of proof, which no public contract cites: how the search takes a comparison of types apart,
+-- into clauses, each of which asks for one of several comparisons.
 use Rattle.std.specs.Prelude.{◌≡◌, ℕ, ◌+◌, ◌*◌, ◌⊎◌, List, [], ◌∷◌, ◌++◌, Bool, true, false, cond, nat_eq, nat_lt, nat_le, max}
 use Rattle.dart_ir.specs.Ty.{Ty, Tys, NamedTys, dynamic, bottom, void, class, parameter, function, nil, cons, unnamed, named}
 use Rattle.dart_ir.specs.Classes.{count}
@@ -79,7 +80,9 @@ to_parameter i _ = [] ∷ []
 
 abbrev pub to_class : Table → ℕ → Tys → Ty → List (List Goal)
 to_class k d ss bottom = []
-to_class k d ss (class c ts) = cond (nat_eq c d) (facing ts ss (each_below (above k (class c ts)) (class d ss))) (each_below (above k (class c ts)) (class d ss) ∷ [])
+to_class k d ss (class c ts) = cond (nat_eq c d)
+    (facing ts ss (each_below (above k (class c ts)) (class d ss)))
+    (each_below (above k (class c ts)) (class d ss) ∷ [])
 to_class k d ss dynamic = [] ∷ []
 to_class k d ss void = [] ∷ []
 to_class k d ss (parameter i) = each_below (k.bounds i) (class d ss) ∷ []
@@ -88,7 +91,9 @@ to_class k d ss (function r q o n) = each_below (above k (function r q o n)) (cl
 abbrev pub to_function : Table → Ty → Tys → Tys → NamedTys → Ty → List (List Goal)
 to_function k s p e m bottom = []
 to_function k s p e m (class c ts) = truth (k.has_call c)
-to_function k s p e m (function r q o n) = result_goals r s ++ (truth (nat_le (count q) (count p)) ++ (positional_goals (append q o) (append p e) ++ named_goals n m))
+to_function k s p e m (function r q o n) = result_goals r s
+    ++ (truth (nat_le (count q) (count p))
+    ++ (positional_goals (append q o) (append p e) ++ named_goals n m))
 to_function k s p e m _ = [] ∷ []
 
 -- the clauses of a comparison

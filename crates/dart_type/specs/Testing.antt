@@ -1,4 +1,4 @@
--- What the tests ask of a direct supertype.
+-- Means of proof, which no public contract cites: what the tests ask of a direct supertype.
 use Rattle.std.specs.Prelude.{◌≡◌, ℕ, ◌<◌, [], Bool, true, Option, Some, None, IsSome, length}
 use Rattle.dart_ir.specs.Ty.{Ty, ty}
 use Rattle.dart_ir.specs.Classes.{IsEarlierClass, IsFormed, HasCallAbove, IsFunctionClass, class_at, direct_supertypes}

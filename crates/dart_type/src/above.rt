@@ -23,7 +23,8 @@ pub fn above_of(
 ) -> Result<Vec<usize>, AllocError>
     requires built { IsBuilt nodes.old.items }
     requires listed { t < length nodes.old.items }
-    ensures { IfOk result (λ us. GivesTys nodes.old.items nodes.new.items us.items (above (table_of classes.now) (read (types nodes.old.items) t))) }
+    ensures { IfOk result (λ us. GivesTys nodes.old.items nodes.new.items us.items
+        (above (table_of classes.now) (read (types nodes.old.items) t))) }
 {
     match node_of(alloc, nodes, t)? {
         Node::Dynamic => Ok(Vec::new(alloc)),
@@ -44,7 +45,8 @@ fn above_class(
 ) -> Result<Vec<usize>, AllocError>
     requires built { IsBuilt nodes.old.items }
     requires listed { AreBelow (length nodes.old.items) ts.now }
-    ensures { IfOk result (λ us. GivesTys nodes.old.items nodes.new.items us.items (above (table_of classes.now) (class c (reads (types nodes.old.items) ts.now)))) }
+    ensures { IfOk result (λ us. GivesTys nodes.old.items nodes.new.items us.items
+        (above (table_of classes.now) (class c (reads (types nodes.old.items) ts.now)))) }
 {
     match classes.classes.get(c as usize) {
         None => Ok(Vec::new(alloc)),
@@ -66,7 +68,9 @@ fn supertypes(
 ) -> Result<Vec<usize>, AllocError>
     requires built { IsBuilt nodes.old.items }
     requires listed { AreBelow (length nodes.old.items) ts.now }
-    ensures { IfOk result (λ us. GivesAll nodes.old.items nodes.new.items us.items (map (λ t. instance (reads (types nodes.old.items) ts.now) (ty t)) (direct_supertypes info.now))) }
+    ensures { IfOk result (λ us. GivesAll nodes.old.items nodes.new.items us.items
+        (map (λ t. instance (reads (types nodes.old.items) ts.now) (ty t))
+        (direct_supertypes info.now))) }
 {
     let mut us = superclass(alloc, nodes, &info.superclass, ts)?;
     let interfaces = enter_all(alloc, nodes, &info.interfaces, ts)?;
@@ -83,7 +87,9 @@ fn superclass(
 ) -> Result<Vec<usize>, AllocError>
     requires built { IsBuilt nodes.old.items }
     requires listed { AreBelow (length nodes.old.items) ts.now }
-    ensures { IfOk result (λ us. GivesAll nodes.old.items nodes.new.items us.items (map (λ t. instance (reads (types nodes.old.items) ts.now) (ty t)) (with_superclass superclass.now []))) }
+    ensures { IfOk result (λ us. GivesAll nodes.old.items nodes.new.items us.items
+        (map (λ t. instance (reads (types nodes.old.items) ts.now) (ty t))
+        (with_superclass superclass.now []))) }
 {
     let mut us = Vec::new(alloc);
     match superclass {
@@ -104,7 +110,8 @@ fn function_class(
     function: u32,
 ) -> Result<Vec<usize>, AllocError>
     requires { IsBuilt nodes.old.items }
-    ensures { IfOk result (λ us. GivesTys nodes.old.items nodes.new.items us.items (if_call callable function)) }
+    ensures { IfOk result (λ us. GivesTys nodes.old.items nodes.new.items us.items
+        (if_call callable function)) }
 {
     let mut us = Vec::new(alloc);
     if callable {

@@ -16,7 +16,8 @@ pub fn assign_all(
 ) -> Result<Vec<Vec<Comparison>>, AllocError>
     requires built { IsBuilt nodes.old.items }
     requires listed { AllListed (length nodes.old.items) clauses.now }
-    ensures { IfOk result (λ cs. GivesClauses nodes.old.items nodes.new.items cs.items (assign_clauses (clauses_of (types nodes.old.items) clauses.now))) }
+    ensures { IfOk result (λ cs. GivesClauses nodes.old.items nodes.new.items cs.items
+        (assign_clauses (clauses_of (types nodes.old.items) clauses.now))) }
 {
     let mut made = Vec::new(alloc);
     for pairs in clauses {
@@ -34,7 +35,8 @@ fn assign_each(
 ) -> Result<Vec<Comparison>, AllocError>
     requires built { IsBuilt nodes.old.items }
     requires listed { AreListed (length nodes.old.items) pairs.now }
-    ensures { IfOk result (λ ws. GivesWays nodes.old.items nodes.new.items ws.items (assign_ways (ways_of (types nodes.old.items) pairs.now))) }
+    ensures { IfOk result (λ ws. GivesWays nodes.old.items nodes.new.items ws.items
+        (assign_ways (ways_of (types nodes.old.items) pairs.now))) }
 {
     let mut ways = Vec::new(alloc);
     for pair in pairs {

@@ -29,8 +29,10 @@ pub fn facing_of(
     ss: &[usize],
     ways: &[Comparison],
 ) -> Result<Vec<Vec<Comparison>>, AllocError>
-    ensures are { IfOk result (λ cs. (us : List Ty) → clauses_of us cs.items ≡ facing (reads us ts.now) (reads us ss.now) (ways_of us ways.now)) }
-    ensures listed { IfOk result (λ cs. (n : ℕ) → AreBelow n ts.now → AreBelow n ss.now → AreListed n ways.now → AllListed n cs.items) }
+    ensures are { IfOk result (λ cs. (us : List Ty) → clauses_of us cs.items
+        ≡ facing (reads us ts.now) (reads us ss.now) (ways_of us ways.now)) }
+    ensures listed { IfOk result (λ cs. (n : ℕ) → AreBelow n ts.now → AreBelow n ss.now
+        → AreListed n ways.now → AllListed n cs.items) }
 {
     let mut clauses = Vec::new(alloc);
     let shorter = ts.len().min(ss.len());
@@ -68,7 +70,9 @@ pub fn rule_pairs_of(
     requires built { IsBuilt nodes.now.items }
     requires f_over { IsOver (length nodes.now.items) (Node.Function f.now) }
     requires g_over { IsOver (length nodes.now.items) (Node.Function g.now) }
-    ensures are { IfOk result (λ cs. clauses_of (types nodes.now.items) cs.items ≡ rule_pairs (node_type (types nodes.now.items) (Node.Function f.now)) (node_type (types nodes.now.items) (Node.Function g.now))) }
+    ensures are { IfOk result (λ cs. clauses_of (types nodes.now.items) cs.items
+        ≡ rule_pairs (node_type (types nodes.now.items) (Node.Function f.now))
+        (node_type (types nodes.now.items) (Node.Function g.now))) }
     ensures listed { IfOk result (λ cs. AllListed (length nodes.now.items) cs.items) }
 {
     let mut clauses = Vec::new(alloc);
@@ -92,8 +96,11 @@ fn add_result(
     requires built { IsBuilt nodes.now.items }
     requires r_listed { r < length nodes.now.items }
     requires s_listed { s < length nodes.now.items }
-    ensures are { IfOk result (λ _. clauses_of (types nodes.now.items) clauses.new.items ≡ clauses_of (types nodes.now.items) clauses.old.items ++ result_pairs (read (types nodes.now.items) r) (read (types nodes.now.items) s)) }
-    ensures listed { IfOk result (λ _. AllListed (length nodes.now.items) clauses.old.items → AllListed (length nodes.now.items) clauses.new.items) }
+    ensures are { IfOk result (λ _. clauses_of (types nodes.now.items) clauses.new.items
+        ≡ clauses_of (types nodes.now.items) clauses.old.items
+        ++ result_pairs (read (types nodes.now.items) r) (read (types nodes.now.items) s)) }
+    ensures listed { IfOk result (λ _. AllListed (length nodes.now.items) clauses.old.items
+        → AllListed (length nodes.now.items) clauses.new.items) }
 {
     if is_void(nodes, s) {
         return Ok(());
@@ -108,8 +115,10 @@ pub fn add_test(
     clauses: &mut Vec<Vec<Comparison>>,
     holds: bool,
 ) -> Result<(), AllocError>
-    ensures are { IfOk result (λ _. (us : List Ty) → clauses_of us clauses.new.items ≡ clauses_of us clauses.old.items ++ truth holds) }
-    ensures listed { IfOk result (λ _. (n : ℕ) → AllListed n clauses.old.items → AllListed n clauses.new.items) }
+    ensures are { IfOk result (λ _. (us : List Ty) → clauses_of us clauses.new.items
+        ≡ clauses_of us clauses.old.items ++ truth holds) }
+    ensures listed { IfOk result (λ _. (n : ℕ) → AllListed n clauses.old.items
+        → AllListed n clauses.new.items) }
 {
     if holds {
         return Ok(());
@@ -149,8 +158,10 @@ fn add_positional(
     ts: &[usize],
     ss: &[usize],
 ) -> Result<(), AllocError>
-    ensures are { IfOk result (λ _. (us : List Ty) → clauses_of us clauses.new.items ≡ clauses_of us clauses.old.items ++ positional_pairs (reads us ts.now) (reads us ss.now)) }
-    ensures listed { IfOk result (λ _. (n : ℕ) → AreBelow n ts.now → AreBelow n ss.now → AllListed n clauses.old.items → AllListed n clauses.new.items) }
+    ensures are { IfOk result (λ _. (us : List Ty) → clauses_of us clauses.new.items
+        ≡ clauses_of us clauses.old.items ++ positional_pairs (reads us ts.now) (reads us ss.now)) }
+    ensures listed { IfOk result (λ _. (n : ℕ) → AreBelow n ts.now → AreBelow n ss.now
+        → AllListed n clauses.old.items → AllListed n clauses.new.items) }
 {
     let shorter = ts.len().min(ss.len());
     for i in 0..shorter {
@@ -170,8 +181,11 @@ fn add_named(
     ns: &[NamedNode],
     ms: &[NamedNode],
 ) -> Result<(), AllocError>
-    ensures are { IfOk result (λ _. (us : List Ty) → clauses_of us clauses.new.items ≡ clauses_of us clauses.old.items ++ named_pairs (named_reads us ns.now) (named_reads us ms.now)) }
-    ensures listed { IfOk result (λ _. (n : ℕ) → AreNamedBelow n ns.now → AreNamedBelow n ms.now → AllListed n clauses.old.items → AllListed n clauses.new.items) }
+    ensures are { IfOk result (λ _. (us : List Ty) → clauses_of us clauses.new.items
+        ≡ clauses_of us clauses.old.items ++ named_pairs (named_reads us ns.now)
+        (named_reads us ms.now)) }
+    ensures listed { IfOk result (λ _. (n : ℕ) → AreNamedBelow n ns.now → AreNamedBelow n ms.now
+        → AllListed n clauses.old.items → AllListed n clauses.new.items) }
 {
     for m in ms {
         clauses.push(named_ways_of(alloc, ns, *m)?)?;
@@ -185,7 +199,8 @@ fn named_ways_of(
     ns: &[NamedNode],
     m: NamedNode,
 ) -> Result<Vec<Comparison>, AllocError>
-    ensures { IfOk result (λ ways. ways.items ≡ map (λ n. record { t = n.of; s = m.of }) (filter (λ n. n.name == m.name) ns.now)) }
+    ensures { IfOk result (λ ways. ways.items ≡ map (λ n. record { t = n.of; s = m.of })
+        (filter (λ n. n.name == m.name) ns.now)) }
 {
     ns.iter()
         .filter(|n| n.name == m.name)

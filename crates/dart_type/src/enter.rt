@@ -18,7 +18,8 @@ pub fn enter(
 ) -> Result<usize, AllocError>
     requires built { IsBuilt nodes.old.items }
     requires listed { AreBelow (length nodes.old.items) args.now }
-    ensures { IfOk result (λ i. Gives nodes.old.items nodes.new.items i (instance (reads (types nodes.old.items) args.now) (ty t.now))) }
+    ensures { IfOk result (λ i. Gives nodes.old.items nodes.new.items i
+        (instance (reads (types nodes.old.items) args.now) (ty t.now))) }
 {
     match t {
         TypeRef::Dynamic => intern(nodes, Node::Dynamic),
@@ -43,7 +44,8 @@ pub fn enter_all(
 ) -> Result<Vec<usize>, AllocError>
     requires built { IsBuilt nodes.old.items }
     requires listed { AreBelow (length nodes.old.items) args.now }
-    ensures { IfOk result (λ is. GivesAll nodes.old.items nodes.new.items is.items (map (λ t. instance (reads (types nodes.old.items) args.now) (ty t)) ts.now)) }
+    ensures { IfOk result (λ is. GivesAll nodes.old.items nodes.new.items is.items
+        (map (λ t. instance (reads (types nodes.old.items) args.now) (ty t)) ts.now)) }
 {
     let mut is = Vec::new(alloc);
     for t in ts {
@@ -63,7 +65,8 @@ fn enter_function(
 ) -> Result<usize, AllocError>
     requires built { IsBuilt nodes.old.items }
     requires listed { AreBelow (length nodes.old.items) args.now }
-    ensures { IfOk result (λ i. Gives nodes.old.items nodes.new.items i (instance (reads (types nodes.old.items) args.now) (function_ty f.now))) }
+    ensures { IfOk result (λ i. Gives nodes.old.items nodes.new.items i
+        (instance (reads (types nodes.old.items) args.now) (function_ty f.now))) }
 {
     let result = enter(alloc, nodes, &f.result, args)?;
     let required = enter_all(alloc, nodes, &f.required, args)?;
@@ -90,7 +93,8 @@ fn enter_named(
 ) -> Result<Vec<NamedNode>, AllocError>
     requires built { IsBuilt nodes.old.items }
     requires listed { AreBelow (length nodes.old.items) args.now }
-    ensures { IfOk result (λ is. GivesNamed nodes.old.items nodes.new.items is.items (map (λ n. named_instance (reads (types nodes.old.items) args.now) (named_ty n)) ns.now)) }
+    ensures { IfOk result (λ is. GivesNamed nodes.old.items nodes.new.items is.items
+        (map (λ n. named_instance (reads (types nodes.old.items) args.now) (named_ty n)) ns.now)) }
 {
     let mut is = Vec::new(alloc);
     for n in ns {
@@ -113,7 +117,8 @@ fn enter_parameter(
 ) -> Result<usize, AllocError>
     requires built { IsBuilt nodes.old.items }
     requires listed { AreBelow (length nodes.old.items) args.now }
-    ensures { IfOk result (λ i. Gives nodes.old.items nodes.new.items i (named_instance (reads (types nodes.old.items) args.now) (named_ty n.now)).1) }
+    ensures { IfOk result (λ i. Gives nodes.old.items nodes.new.items i
+        (named_instance (reads (types nodes.old.items) args.now) (named_ty n.now)).1) }
 {
     enter(alloc, nodes, &n.of, args)
 }
@@ -122,7 +127,8 @@ fn enter_parameter(
 fn argument(nodes: &mut Vec<Node>, args: &[usize], i: usize) -> Result<usize, AllocError>
     requires built { IsBuilt nodes.old.items }
     requires listed { AreBelow (length nodes.old.items) args.now }
-    ensures { IfOk result (λ j. Gives nodes.old.items nodes.new.items j (instance (reads (types nodes.old.items) args.now) (parameter i))) }
+    ensures { IfOk result (λ j. Gives nodes.old.items nodes.new.items j
+        (instance (reads (types nodes.old.items) args.now) (parameter i))) }
 {
     match args.get(i) {
         Some(j) => Ok(*j),

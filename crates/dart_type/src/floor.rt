@@ -11,7 +11,8 @@ use std::alloc::{AllocError, Global};
 pub fn floor_of(alloc: Global, nodes: &mut Vec<Node>, t: usize) -> Result<usize, AllocError>
     requires built { IsBuilt nodes.old.items }
     requires listed { t < length nodes.old.items }
-    ensures { IfOk result (λ i. Gives nodes.old.items nodes.new.items i (floor (read (types nodes.old.items) t))) }
+    ensures { IfOk result (λ i. Gives nodes.old.items nodes.new.items i
+        (floor (read (types nodes.old.items) t))) }
 {
     match node_of(alloc, nodes, t)? {
         Node::Dynamic => intern(nodes, Node::Bottom),
@@ -36,7 +37,8 @@ fn floor_all(
     requires built { IsBuilt nodes.old.items }
     requires listed { end ≤ length nodes.old.items }
     requires below { AreBelow end is.now }
-    ensures { IfOk result (λ low. GivesAll nodes.old.items nodes.new.items low.items (map (λ i. floor (read (types nodes.old.items) i)) is.now)) }
+    ensures { IfOk result (λ low. GivesAll nodes.old.items nodes.new.items low.items
+        (map (λ i. floor (read (types nodes.old.items) i)) is.now)) }
 {
     let mut low = Vec::new(alloc);
     for i in is {
@@ -57,7 +59,8 @@ fn floor_function(
     requires built { IsBuilt nodes.old.items }
     requires listed { end ≤ length nodes.old.items }
     requires below { IsOver end (Node.Function f.now) }
-    ensures { IfOk result (λ i. Gives nodes.old.items nodes.new.items i (floor (node_type (types nodes.old.items) (Node.Function f.now)))) }
+    ensures { IfOk result (λ i. Gives nodes.old.items nodes.new.items i
+        (floor (node_type (types nodes.old.items) (Node.Function f.now)))) }
 {
     let result = floor_of(alloc, nodes, f.result)?;
     let required = floor_all(alloc, nodes, &f.required, end)?;
@@ -85,7 +88,8 @@ fn floor_named(
     requires built { IsBuilt nodes.old.items }
     requires listed { end ≤ length nodes.old.items }
     requires below { AreNamedBelow end ns.now }
-    ensures { IfOk result (λ low. GivesNamed nodes.old.items nodes.new.items low.items (map (λ n. (n.name, floor (read (types nodes.old.items) n.of))) ns.now)) }
+    ensures { IfOk result (λ low. GivesNamed nodes.old.items nodes.new.items low.items
+        (map (λ n. (n.name, floor (read (types nodes.old.items) n.of))) ns.now)) }
 {
     let mut low = Vec::new(alloc);
     for n in ns {

@@ -25,7 +25,9 @@ pub fn goals_of(
     requires built { IsBuilt nodes.old.items }
     requires t_listed { t < length nodes.old.items }
     requires s_listed { s < length nodes.old.items }
-    ensures { IfOk result (λ cs. GivesClauses nodes.old.items nodes.new.items cs.items (goals (table_of classes.now) (read (types nodes.old.items) t) (read (types nodes.old.items) s))) }
+    ensures { IfOk result (λ cs. GivesClauses nodes.old.items nodes.new.items cs.items
+        (goals (table_of classes.now) (read (types nodes.old.items) t)
+        (read (types nodes.old.items) s))) }
 {
     match node_of(alloc, nodes, s)? {
         Node::Dynamic => Ok(Vec::new(alloc)),
@@ -39,7 +41,8 @@ pub fn goals_of(
 /// No clause where the test holds, and else one that nothing meets.
 fn test(alloc: Global, nodes: &Vec<Node>, holds: bool) -> Result<Vec<Vec<Comparison>>, AllocError>
     requires { IsBuilt nodes.now.items }
-    ensures { IfOk result (λ cs. GivesClauses nodes.now.items nodes.now.items cs.items (truth holds)) }
+    ensures { IfOk result (λ cs. GivesClauses nodes.now.items nodes.now.items cs.items
+        (truth holds)) }
 {
     let mut clauses = Vec::new(alloc);
     add_test(alloc, &mut clauses, holds)?;
@@ -72,7 +75,9 @@ fn ways_up(
     requires built { IsBuilt nodes.old.items }
     requires t_listed { t < length nodes.old.items }
     requires s_listed { s < length nodes.old.items }
-    ensures { IfOk result (λ ws. GivesWays nodes.old.items nodes.new.items ws.items (each_below (above (table_of classes.now) (read (types nodes.old.items) t)) (read (types nodes.old.items) s))) }
+    ensures { IfOk result (λ ws. GivesWays nodes.old.items nodes.new.items ws.items
+        (each_below (above (table_of classes.now) (read (types nodes.old.items) t))
+        (read (types nodes.old.items) s))) }
 {
     let us = above_of(alloc, classes, nodes, t)?;
     each_below_of(alloc, &us, s)
@@ -101,8 +106,11 @@ fn class_goals(
     requires t_listed { t < length nodes.old.items }
     requires s_listed { s < length nodes.old.items }
     requires ss_listed { AreBelow (length nodes.old.items) ss.now }
-    requires s_is { read (types nodes.old.items) s ≡ class d (reads (types nodes.old.items) ss.now) }
-    ensures { IfOk result (λ cs. GivesClauses nodes.old.items nodes.new.items cs.items (to_class (table_of classes.now) d (reads (types nodes.old.items) ss.now) (read (types nodes.old.items) t))) }
+    requires s_is { read (types nodes.old.items) s
+        ≡ class d (reads (types nodes.old.items) ss.now) }
+    ensures { IfOk result (λ cs. GivesClauses nodes.old.items nodes.new.items cs.items
+        (to_class (table_of classes.now) d (reads (types nodes.old.items) ss.now)
+        (read (types nodes.old.items) t))) }
 {
     match node_of(alloc, nodes, t)? {
         Node::Bottom => Ok(Vec::new(alloc)),
@@ -135,7 +143,9 @@ fn function_goals(
     requires t_listed { t < length nodes.old.items }
     requires s_listed { s < length nodes.old.items }
     requires over { IsOver s (Node.Function g.now) }
-    ensures { IfOk result (λ cs. GivesClauses nodes.old.items nodes.new.items cs.items (goals (table_of classes.now) (read (types nodes.old.items) t) (node_type (types nodes.old.items) (Node.Function g.now)))) }
+    ensures { IfOk result (λ cs. GivesClauses nodes.old.items nodes.new.items cs.items
+        (goals (table_of classes.now) (read (types nodes.old.items) t)
+        (node_type (types nodes.old.items) (Node.Function g.now)))) }
 {
     match node_of(alloc, nodes, t)? {
         Node::Bottom => Ok(Vec::new(alloc)),

@@ -3,17 +3,19 @@ ghost use Rattle.std.specs.Prelude.{◌≡◌, ◌+◌, ◌<◌, ◌≤◌, IfOk
 ghost use Rattle.dart_ir.specs.Ty.{ty, tys, function_ty, named_ty, named_tys, parameter};
 ghost use Rattle.dart_type.specs.Instance.{instance, named_instance, node_count, node_counts, named_node_count};
 
-use dart_ir::types::{FunctionType, NamedType, TypeRef, Types, copy};
+use dart_base::limit::TYPE_NODES;
+use dart_ir::types::{FunctionType, NamedType, TypeRef, Types};
 use std::alloc::{AllocError, Global};
-
-/// How many nodes an instantiated type may have.
-pub const NODE_LIMIT: usize = 256;
+use thiserror::Error;
 
 /// Why a type has no instance.
-#[derive(Debug, Drop, PartialEq, Eq)]
+#[derive(Debug, Drop, PartialEq, Eq, Error)]
 pub enum TypeFault {
-    /// The instance has more than `NODE_LIMIT` nodes.
+    /// The instance has more than `TYPE_NODES` nodes.
+    #[error("a type with too many nodes")]
     TooLarge,
+    /// Memory ran out.
+    #[error("out of memory")]
     Memory,
 }
 
@@ -29,14 +31,15 @@ impl From<AllocError> for TypeFault {
 }
 
 /// The type with the arguments in the places of its parameters, the first argument for parameter 0. A parameter
-/// without an argument counts as `dynamic`.
+/// without an argument counts as `dynamic`. `TooLarge` comes where the instance has more than `TYPE_NODES` nodes.
 pub fn instantiate(alloc: Global, t: &TypeRef, args: &[TypeRef]) -> Result<TypeRef, TypeFault>
-    ensures value { IfOk result (λ u. ty u ≡ instance (tys args.now) (ty t.now)) }
-    ensures fits { OnOk result (node_count (instance (tys args.now) (ty t.now)) ≤ NODE_LIMIT) }
-    ensures too_large { result ≡ Err TypeFault.TooLarge → NODE_LIMIT < node_count (instance (tys args.now) (ty t.now)) }
+    ensures value { IfOk result (λ made. ty made ≡ instance (tys args.now) (ty t.now)) }
+    ensures fits { OnOk result (node_count (instance (tys args.now) (ty t.now)) ≤ TYPE_NODES) }
+    ensures too_large { result ≡ Err TypeFault.TooLarge
+        → TYPE_NODES < node_count (instance (tys args.now) (ty t.now)) }
 {
     let u = put_in(alloc, t, args)?;
-    match room_after(&u, NODE_LIMIT) {
+    match room_after(&u, TYPE_NODES) {
         Some(_) => Ok(u),
         None => Err(TypeFault::TooLarge),
     }
@@ -65,7 +68,8 @@ fn put_in(alloc: Global, t: &TypeRef, args: &[TypeRef]) -> Result<TypeRef, Alloc
 #[cycle(instantiating)]
 #[tactic(auto, using(crate::proofs::Instances::instance_views))]
 fn put_in_all(alloc: Global, ts: &[TypeRef], args: &[TypeRef]) -> Result<Types, AllocError>
-    ensures { IfOk result (λ v. map ty v.items ≡ map (λ t. instance (tys args.now) (ty t)) ts.now) }
+    ensures { IfOk result (λ v.
+        map ty v.items ≡ map (λ t. instance (tys args.now) (ty t)) ts.now) }
 {
     let mut v = Vec::new(alloc);
     for t in ts {
@@ -104,7 +108,8 @@ fn put_in_named(
     ns: &[NamedType],
     args: &[TypeRef],
 ) -> Result<Vec<NamedType>, AllocError>
-    ensures { IfOk result (λ v. map named_ty v.items ≡ map (λ n. named_instance (tys args.now) (named_ty n)) ns.now) }
+    ensures { IfOk result (λ v.
+        map named_ty v.items ≡ map (λ n. named_instance (tys args.now) (named_ty n)) ns.now) }
 {
     let mut v = Vec::new(alloc);
     for n in ns {
@@ -131,7 +136,7 @@ fn argument(alloc: Global, args: &[TypeRef], i: usize) -> Result<TypeRef, AllocE
     ensures { IfOk result (λ u. ty u ≡ instance (tys args.now) (parameter i)) }
 {
     match args.get(i) {
-        Some(t) => Ok(copy(alloc, t)?),
+        Some(t) => Ok(t.try_clone(alloc)?),
         None => Ok(TypeRef::Dynamic),
     }
 }
@@ -140,7 +145,8 @@ fn argument(alloc: Global, args: &[TypeRef], i: usize) -> Result<TypeRef, AllocE
 #[cycle(measuring)]
 #[tactic(auto, using(dart_ir::proofs::View::views))]
 fn room_after(t: &TypeRef, room: usize) -> Option<usize>
-    ensures { MatchOption result (room < node_count (ty t.now)) (λ left. left + node_count (ty t.now) ≡ room) }
+    ensures { MatchOption result (room < node_count (ty t.now))
+        (λ left. left + node_count (ty t.now) ≡ room) }
 {
     if room == 0 {
         return None;
@@ -159,7 +165,8 @@ fn room_after(t: &TypeRef, room: usize) -> Option<usize>
 #[cycle(measuring)]
 #[tactic(auto, using(dart_ir::proofs::View::views))]
 fn room_after_all(ts: &[TypeRef], room: usize) -> Option<usize>
-    ensures { MatchOption result (room < node_counts (tys ts.now)) (λ left. left + node_counts (tys ts.now) ≡ room) }
+    ensures { MatchOption result (room < node_counts (tys ts.now))
+        (λ left. left + node_counts (tys ts.now) ≡ room) }
 {
     let mut left = room;
     for t in ts {
@@ -173,7 +180,8 @@ fn room_after_all(ts: &[TypeRef], room: usize) -> Option<usize>
 #[tactic(auto, using(dart_ir::proofs::View::views))]
 fn room_after_function(f: &FunctionType, room: usize) -> Option<usize>
     requires { 0 < room }
-    ensures { MatchOption result (room < node_count (function_ty f.now)) (λ left. left + node_count (function_ty f.now) ≡ room) }
+    ensures { MatchOption result (room < node_count (function_ty f.now))
+        (λ left. left + node_count (function_ty f.now) ≡ room) }
 {
     let room = room_after(&f.result, room - 1)?;
     let room = room_after_all(&f.required, room)?;
@@ -185,7 +193,8 @@ fn room_after_function(f: &FunctionType, room: usize) -> Option<usize>
 #[cycle(measuring)]
 #[tactic(auto, using(dart_ir::proofs::View::views))]
 fn room_after_named(ns: &[NamedType], room: usize) -> Option<usize>
-    ensures { MatchOption result (room < named_node_count (named_tys ns.now)) (λ left. left + named_node_count (named_tys ns.now) ≡ room) }
+    ensures { MatchOption result (room < named_node_count (named_tys ns.now))
+        (λ left. left + named_node_count (named_tys ns.now) ≡ room) }
 {
     let mut left = room;
     for n in ns {
@@ -198,7 +207,8 @@ fn room_after_named(ns: &[NamedType], room: usize) -> Option<usize>
 #[cycle(measuring)]
 #[tactic(auto, using(dart_ir::proofs::View::views))]
 fn room_after_parameter(n: &NamedType, room: usize) -> Option<usize>
-    ensures { MatchOption result (room < node_count (named_ty n.now).1) (λ left. left + node_count (named_ty n.now).1 ≡ room) }
+    ensures { MatchOption result (room < node_count (named_ty n.now).1)
+        (λ left. left + node_count (named_ty n.now).1 ≡ room) }
 {
     room_after(&n.of, room)
 }

@@ -1,7 +1,7 @@
 // Interned types: each type once, as a node over the numbers of others, so that types are equal where their numbers are.
 ghost use Rattle.std.specs.Prelude.{◌≡◌, ◌<◌, List, length, IfOk, IfSome, IsTrue, slice_index_or};
 ghost use Rattle.dart_ir.specs.Ty.{Ty};
-ghost use Rattle.dart_type.specs.Intern.{types, node_type, IsOver, IsBuilt, IsNodeOf, IsCopy, Gives};
+ghost use Rattle.dart_type.specs.Intern.{types, node_type, IsOver, IsBuilt, IsNodeOf, Gives};
 
 use std::alloc::{AllocError, Global};
 
@@ -35,7 +35,8 @@ pub struct NamedNode {
 pub fn intern(nodes: &mut Vec<Node>, node: Node) -> Result<usize, AllocError>
     requires built { IsBuilt nodes.old.items }
     requires over { IsOver (length nodes.old.items) node }
-    ensures { IfOk result (λ i. Gives nodes.old.items nodes.new.items i (node_type (types nodes.old.items) node)) }
+    ensures { IfOk result (λ i. Gives nodes.old.items nodes.new.items i
+        (node_type (types nodes.old.items) node)) }
 {
     match position_of(nodes, &node) {
         Some(i) => Ok(i),
@@ -49,7 +50,9 @@ pub fn intern(nodes: &mut Vec<Node>, node: Node) -> Result<usize, AllocError>
 
 /// The place of an equal node.
 fn position_of(nodes: &[Node], node: &Node) -> Option<usize>
-    ensures { IfSome result (λ i. (i < length nodes.now) × ((ts : List Ty) → node_type ts (slice_index_or nodes.now i node.now) ≡ node_type ts node.now)) }
+    ensures { IfSome result (λ i. (i < length nodes.now)
+        × ((ts : List Ty) → node_type ts (slice_index_or nodes.now i node.now)
+        ≡ node_type ts node.now)) }
 {
     for i in 0..nodes.len() {
         if is_same(&nodes[i], node) {
@@ -74,7 +77,8 @@ fn is_same(a: &Node, b: &Node) -> bool
 }
 
 fn is_same_shape(f: &Shape, g: &Shape) -> bool
-    ensures { IsTrue result → (ts : List Ty) → node_type ts (Node.Function f.now) ≡ node_type ts (Node.Function g.now) }
+    ensures { IsTrue result → (ts : List Ty) → node_type ts (Node.Function f.now)
+        ≡ node_type ts (Node.Function g.now) }
 {
     if f.result != g.result || f.required.as_slice() != g.required.as_slice() {
         return false;
@@ -111,31 +115,39 @@ pub fn node_of(alloc: Global, nodes: &Vec<Node>, t: usize) -> Result<Node, Alloc
     requires listed { t < length nodes.now.items }
     ensures { IfOk result (λ n. IsNodeOf nodes.now.items t n) }
 {
-    copy_node(alloc, &nodes[t])
+    nodes[t].try_clone(alloc)
 }
 
-fn copy_node(alloc: Global, node: &Node) -> Result<Node, AllocError>
-    ensures { IfOk result (λ n. IsCopy node.now n) }
-{
-    match node {
-        Node::Dynamic => Ok(Node::Dynamic),
-        Node::Bottom => Ok(Node::Bottom),
-        Node::Void => Ok(Node::Void),
-        Node::Class(c, ts) => Ok(Node::Class(*c, Vec::from_slice(alloc, ts)?)),
-        Node::Function(f) => Ok(Node::Function(copy_shape(alloc, f)?)),
+impl Node {
+    ghost use Rattle.dart_type.specs.Intern.{IsCopy};
+
+    fn try_clone(&self, alloc: Global) -> Result<Self, AllocError>
+        ensures { IfOk result (λ copy. IsCopy self.now copy) }
+    {
+        match self {
+            Node::Dynamic => Ok(Node::Dynamic),
+            Node::Bottom => Ok(Node::Bottom),
+            Node::Void => Ok(Node::Void),
+            Node::Class(c, ts) => Ok(Node::Class(*c, Vec::from_slice(alloc, ts)?)),
+            Node::Function(f) => Ok(Node::Function(f.try_clone(alloc)?)),
+        }
     }
 }
 
-fn copy_shape(alloc: Global, f: &Shape) -> Result<Shape, AllocError>
-    ensures { IfOk result (λ g. IsCopy (Node.Function f.now) (Node.Function g)) }
-{
-    let required = Vec::from_slice(alloc, &f.required)?;
-    let optional = Vec::from_slice(alloc, &f.optional)?;
-    let named = Vec::from_slice(alloc, &f.named)?;
-    Ok(Shape {
-        result: f.result,
-        required,
-        optional,
-        named,
-    })
+impl Shape {
+    ghost use Rattle.dart_type.specs.Intern.{IsCopy};
+
+    fn try_clone(&self, alloc: Global) -> Result<Self, AllocError>
+        ensures { IfOk result (λ copy. IsCopy (Node.Function self.now) (Node.Function copy)) }
+    {
+        let required = Vec::from_slice(alloc, &self.required)?;
+        let optional = Vec::from_slice(alloc, &self.optional)?;
+        let named = Vec::from_slice(alloc, &self.named)?;
+        Ok(Shape {
+            result: self.result,
+            required,
+            optional,
+            named,
+        })
+    }
 }

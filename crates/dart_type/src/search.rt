@@ -36,7 +36,10 @@ pub fn is_below(
     requires right { AreRight (table_of classes.now) nodes.old.items answers.old.items }
     requires t_listed { t < length nodes.old.items }
     requires s_listed { s < length nodes.old.items }
-    ensures { IfOk result (λ b. Decides (table_of classes.now) nodes.old.items nodes.new.items answers.new.items b (IsMoreSpecific (table_of classes.now) (read (types nodes.old.items) t) (read (types nodes.old.items) s))) }
+    ensures { IfOk result (λ b.
+        Decides (table_of classes.now) nodes.old.items nodes.new.items answers.new.items b
+        (IsMoreSpecific (table_of classes.now) (read (types nodes.old.items) t)
+        (read (types nodes.old.items) s))) }
 {
     if let Some(holds) = answer_of(answers, t, s) {
         return Ok(holds);
@@ -60,7 +63,10 @@ fn do_all_hold(
     requires built { IsBuilt nodes.old.items }
     requires right { AreRight (table_of classes.now) nodes.old.items answers.old.items }
     requires listed { AllListed (length nodes.old.items) clauses.now }
-    ensures { IfOk result (λ b. Decides (table_of classes.now) nodes.old.items nodes.new.items answers.new.items b (AllClauses (Holds (table_of classes.now)) (clauses_of (types nodes.old.items) clauses.now))) }
+    ensures { IfOk result (λ b.
+        Decides (table_of classes.now) nodes.old.items nodes.new.items answers.new.items b
+        (AllClauses (Holds (table_of classes.now))
+        (clauses_of (types nodes.old.items) clauses.now))) }
 {
     for ways in clauses {
         if !does_one_hold(alloc, classes, nodes, answers, ways)? {
@@ -83,7 +89,9 @@ fn does_one_hold(
     requires built { IsBuilt nodes.old.items }
     requires right { AreRight (table_of classes.now) nodes.old.items answers.old.items }
     requires listed { AreListed (length nodes.old.items) ways.now }
-    ensures { IfOk result (λ b. Decides (table_of classes.now) nodes.old.items nodes.new.items answers.new.items b (AnyWay (Holds (table_of classes.now)) (ways_of (types nodes.old.items) ways.now))) }
+    ensures { IfOk result (λ b.
+        Decides (table_of classes.now) nodes.old.items nodes.new.items answers.new.items b
+        (AnyWay (Holds (table_of classes.now)) (ways_of (types nodes.old.items) ways.now))) }
 {
     for way in ways {
         if is_below(alloc, classes, nodes, answers, way.t, way.s)? {

@@ -23,7 +23,8 @@ pub fn more_specific(
     requires valid { IsValid classes.now }
     requires t_formed { IsFormed classes.now 0 (ty t.now) }
     requires s_formed { IsFormed classes.now 0 (ty s.now) }
-    ensures { IfOk result (λ b. IsTrue b ↔ IsMoreSpecific (table_of classes.now) (ty t.now) (ty s.now)) }
+    ensures { IfOk result (λ holds.
+        IsTrue holds ↔ IsMoreSpecific (table_of classes.now) (ty t.now) (ty s.now)) }
 {
     let mut nodes = Vec::new(alloc);
     let i = enter(alloc, &mut nodes, t, &[])?;
@@ -42,7 +43,8 @@ pub fn is_subtype(
     requires valid { IsValid classes.now }
     requires t_formed { IsFormed classes.now 0 (ty t.now) }
     requires s_formed { IsFormed classes.now 0 (ty s.now) }
-    ensures { IfOk result (λ b. IsTrue b ↔ IsSubtype (table_of classes.now) (ty t.now) (ty s.now)) }
+    ensures { IfOk result (λ holds.
+        IsTrue holds ↔ IsSubtype (table_of classes.now) (ty t.now) (ty s.now)) }
 {
     let mut nodes = Vec::new(alloc);
     let i = enter(alloc, &mut nodes, t, &[])?;
@@ -62,11 +64,13 @@ pub fn assignable(
     requires valid { IsValid classes.now }
     requires t_formed { IsFormed classes.now 0 (ty t.now) }
     requires s_formed { IsFormed classes.now 0 (ty s.now) }
-    ensures { IfOk result (λ b. IsTrue b ↔ IsAssignable (table_of classes.now) (ty t.now) (ty s.now)) }
+    ensures { IfOk result (λ holds.
+        IsTrue holds ↔ IsAssignable (table_of classes.now) (ty t.now) (ty s.now)) }
 {
     if is_subtype(alloc, classes, t, s)? {
         return Ok(true);
     }
+    // The answer has a name, by which the proof speaks of it.
     let back = is_subtype(alloc, classes, s, t)?;
     Ok(back)
 }
@@ -83,9 +87,11 @@ fn compare(
     requires built { IsBuilt nodes.old.items }
     requires t_listed { t < length nodes.old.items }
     requires s_listed { s < length nodes.old.items }
-    ensures { IfOk result (λ b. IsTrue b ↔ IsMoreSpecific (table_of classes.now) (read (types nodes.old.items) t) (read (types nodes.old.items) s)) }
+    ensures { let known = types nodes.old.items in IfOk result (λ holds.
+        IsTrue holds ↔ IsMoreSpecific (table_of classes.now) (read known t) (read known s)) }
 {
     let mut answers: Vec<Answer> = Vec::new(alloc);
+    // The answer has a name, by which the proof speaks of it.
     let holds = is_below(alloc, classes, nodes, &mut answers, t, s)?;
     Ok(holds)
 }

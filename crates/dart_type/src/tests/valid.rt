@@ -71,7 +71,8 @@ fn is_named_formed(k: &Classes, n: usize, m: &NamedType) -> bool
 
 /// Whether a class is listed with so many parameters.
 fn has_parameters(k: &Classes, c: u32, n: usize) -> bool
-    ensures { IsTrue result → (c < length k.now.classes.items) × (n ≡ parameter_count (class_at k.now c)) }
+    ensures { IsTrue result → (c < length k.now.classes.items)
+        × (n ≡ parameter_count (class_at k.now c)) }
 {
     match k.classes.get(c as usize) {
         None => false,
@@ -238,7 +239,8 @@ fn is_object(t: &TypeRef) -> bool
 }
 
 fn are_classes_valid(k: &Classes) -> bool
-    ensures { IsTrue result → (c : ℕ) → c < length k.now.classes.items → (i : ClassInfo) → class_at k.now c ≡ Some i → IsValidClass k.now c i }
+    ensures { IsTrue result → (c : ℕ) → c < length k.now.classes.items → (i : ClassInfo)
+        → class_at k.now c ≡ Some i → IsValidClass k.now c i }
 {
     for c in 0..k.classes.len() {
         if !is_class_valid(k, c) {
