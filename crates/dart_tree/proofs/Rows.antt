@@ -54,6 +54,7 @@ use Rattle.dart_tree.specs.declared.identifier.Identifier.{Identifier}
 use Rattle.dart_tree.specs.declared.identifier.DotName.{DotName}
 use Rattle.dart_tree.specs.declared.identifier.Label.{Label}
 use Rattle.dart_tree.specs.declared.expression.Atom.{Atom}
+use Rattle.dart_tree.specs.declared.expression.Creation.{Creation}
 use Rattle.dart_tree.specs.declared.parameter.ThisDot.{ThisDot}
 use Rattle.dart_tree.specs.declared.statement.Jump.{Jump}
 use Rattle.dart_tree.specs.declared.types.TypeNode.{TypeNode}
@@ -244,9 +245,9 @@ view_map_literal kinds opening all comma closing =
     let row_all = row_map_literal_all (p.Map kinds opening all comma closing) in
     ap (λ (x : t.Entries). t.map_literal (view.type_arguments kinds) opening x comma closing) (entries_row row_all.0 row_all.1 ∙ ap entries_of (items_hidden-the_row-Entry-5 all))
 
-pub view_new_object : (word : Place) (kind : TypeNode) (constructor : Option DotName) (args : Arguments) → view.primary (p.New word kind constructor args) ≡ t.new_object word (view.type_node kind) constructor (view.arguments args)
+pub view_new_object : (creation : Creation) (class : TypeNode) (constructor : Option DotName) (args : Arguments) → view.primary (p.New creation class constructor args) ≡ t.new_object creation (view.type_node class) constructor (view.arguments args)
 unfolding view.primary
-view_new_object word kind constructor args = refl
+view_new_object creation class constructor args = refl
 
 pub view_function_literal : (params : Parameters) (inner : Body) → view.primary (p.Function params inner) ≡ t.function_literal (view.parameters params) (view.body inner)
 unfolding view.primary

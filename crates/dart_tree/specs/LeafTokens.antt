@@ -1,5 +1,5 @@
 -- The tokens of what holds no expression.
-use Rattle.std.specs.Prelude.{ℕ, List, [], ◌∷◌, ◌++◌, flat_map, Option, None, Some}
+use Rattle.std.specs.Prelude.{ℕ, List, [], ◌∷◌, ◌++◌, flat_map, codes, Option, None, Some}
 use Rattle.dart_base.specs.declared.place.Place.{Place}
 use Rattle.dart_token.specs.declared.token.Token.{Token}
 use Rattle.dart_token.specs.declared.token.TokenKind.{TokenKind}
@@ -18,6 +18,8 @@ use Rattle.dart_tree.specs.declared.operator.Operator.{Operator}
 use Rattle.dart_tree.specs.declared.operator.Operator.TheVariants as o
 use Rattle.dart_tree.specs.declared.expression.Atom.{Atom}
 use Rattle.dart_tree.specs.declared.expression.Atom.TheVariants as a
+use Rattle.dart_tree.specs.declared.expression.Creation.{Creation}
+use Rattle.dart_tree.specs.declared.expression.Creation.TheVariants as c
 use Rattle.dart_tree.specs.declared.expression.PieceKind.{PieceKind}
 use Rattle.dart_tree.specs.declared.expression.PieceKind.TheVariants as p
 use Rattle.dart_tree.specs.declared.parameter.Brackets.{Brackets}
@@ -29,7 +31,11 @@ use Rattle.dart_tree.specs.declared.statement.Jump.{Jump}
 use Rattle.dart_tree.specs.declared.statement.Jump.TheVariants as j
 use Rattle.dart_tree.specs.declared.statement.Catch.{Catch}
 use Rattle.dart_tree.specs.declared.identifier.CommaName.{CommaName}
-use Rattle.dart_tree.specs.Types.{TypeNode, TypeArguments, TypeList, ResultType, VariableKind, TryKind, dynamic_type, named_type, no_types, listed_types, no_more_types, type_more, void_result, typed_result, no_kind, var_kind, final_kind, typed_kind, on_part, catch_part, finally_part}
+use Rattle.dart_tree.specs.Types.{TypeNode, TypeArguments, TypeList, ResultType, VariableKind}
+use Rattle.dart_tree.specs.Types.{TryKind, dynamic_type, named_type, no_types, listed_types}
+use Rattle.dart_tree.specs.Types.{no_more_types, type_more, void_result, typed_result, no_kind}
+use Rattle.dart_tree.specs.Types.{var_kind, final_kind, const_kind, typed_kind, on_part, catch_part}
+use Rattle.dart_tree.specs.Types.{finally_part}
 
 -- a sign, and a word
 abbrev pub sign_at : Place → Sign → Token
@@ -47,7 +53,8 @@ maybe_word None which = []
 maybe_word (Some place) which = word_at place which ∷ []
 
 abbrev pub identifier_tokens : Identifier → List Token
-identifier_tokens (i.Name place text) = record { kind = tk.Identifier; place = place; lexeme = text } ∷ []
+identifier_tokens (i.Name place text) =
+    record { kind = tk.Identifier; place = place; lexeme = text } ∷ []
 identifier_tokens (i.Get place) = word_at place w.Get ∷ []
 identifier_tokens (i.Set place) = word_at place w.Set ∷ []
 
@@ -77,8 +84,10 @@ labels_tokens ls = flat_map label_tokens ls
 
 abbrev pub operator_tokens : Operator → List Token
 operator_tokens (o.Sign place sign) = sign_at place sign ∷ []
-operator_tokens (o.ShiftRight first second) = sign_at first s.Greater ∷ sign_at second s.Greater ∷ []
-operator_tokens (o.ShiftRightAssign first second) = sign_at first s.Greater ∷ sign_at second s.GreaterEqual ∷ []
+operator_tokens (o.ShiftRight first second) =
+    sign_at first s.Greater ∷ sign_at second s.Greater ∷ []
+operator_tokens (o.ShiftRightAssign first second) =
+    sign_at first s.Greater ∷ sign_at second s.GreaterEqual ∷ []
 
 abbrev pub maybe_operator : Option Operator → List Token
 maybe_operator None = []
@@ -89,8 +98,13 @@ atom_tokens (a.This place) = word_at place w.This ∷ []
 atom_tokens (a.Null place) = word_at place w.Null ∷ []
 atom_tokens (a.True place) = word_at place w.True ∷ []
 atom_tokens (a.False place) = word_at place w.False ∷ []
-atom_tokens (a.Integer place digits) = record { kind = tk.Integer; place = place; lexeme = digits } ∷ []
+atom_tokens (a.Integer place digits) =
+    record { kind = tk.Integer; place = place; lexeme = digits } ∷ []
 atom_tokens (a.Name name) = identifier_tokens name
+
+abbrev pub creation_token : Creation → Token
+creation_token (c.New place) = word_at place w.New
+creation_token (c.Const place) = word_at place w.Const
 
 abbrev pub piece_kind : PieceKind → TokenKind
 piece_kind p.Whole = tk.Whole
@@ -130,16 +144,22 @@ closing_parenthesis None = []
 closing_parenthesis (Some x) = sign_at x.closing s.RightParenthesis ∷ []
 
 abbrev pub jump_tokens : Jump → List Token
-jump_tokens (j.Break place label semicolon) = word_at place w.Break ∷ (maybe_identifier label ++ sign_at semicolon s.Semicolon ∷ [])
-jump_tokens (j.Continue place label semicolon) = word_at place w.Continue ∷ (maybe_identifier label ++ sign_at semicolon s.Semicolon ∷ [])
-jump_tokens (j.Rethrow place semicolon) = word_at place w.Rethrow ∷ sign_at semicolon s.Semicolon ∷ []
+jump_tokens (j.Break place label semicolon) =
+    word_at place w.Break ∷ (maybe_identifier label ++ sign_at semicolon s.Semicolon ∷ [])
+jump_tokens (j.Continue place label semicolon) =
+    word_at place w.Continue ∷ (maybe_identifier label ++ sign_at semicolon s.Semicolon ∷ [])
+jump_tokens (j.Rethrow place semicolon) =
+    word_at place w.Rethrow ∷ sign_at semicolon s.Semicolon ∷ []
 
 abbrev pub trace_tokens : Option CommaName → List Token
 trace_tokens None = []
 trace_tokens (Some x) = sign_at x.comma s.Comma ∷ identifier_tokens x.name
 
 abbrev pub catch_tokens : Catch → List Token
-catch_tokens c = word_at c.word w.Catch ∷ sign_at c.opening s.LeftParenthesis ∷ (identifier_tokens c.exception ++ (trace_tokens c.trace ++ sign_at c.closing s.RightParenthesis ∷ []))
+catch_tokens c =
+    word_at c.word w.Catch ∷ sign_at c.opening s.LeftParenthesis ∷
+    (identifier_tokens c.exception ++ (trace_tokens c.trace ++
+    sign_at c.closing s.RightParenthesis ∷ []))
 
 abbrev pub maybe_catch : Option Catch → List Token
 maybe_catch None = []
@@ -147,21 +167,24 @@ maybe_catch (Some c) = catch_tokens c
 
 -- `on` is no word
 abbrev pub on_text : List ℕ
-on_text = 111 ∷ 110 ∷ []
+on_text = codes "on"
 
 -- types
 abbrev mutual
   pub type_tokens : TypeNode → List Token
   type_tokens (dynamic_type place) = word_at place w.Dynamic ∷ []
-  type_tokens (named_type name member arguments) = identifier_tokens name ++ (maybe_dot_name member ++ type_arguments_tokens arguments)
+  type_tokens (named_type name member arguments) =
+      identifier_tokens name ++ (maybe_dot_name member ++ type_arguments_tokens arguments)
 
   pub type_arguments_tokens : TypeArguments → List Token
   type_arguments_tokens no_types = []
-  type_arguments_tokens (listed_types opening listed closing) = sign_at opening s.Less ∷ (type_list_tokens listed ++ sign_at closing s.Greater ∷ [])
+  type_arguments_tokens (listed_types opening listed closing) =
+      sign_at opening s.Less ∷ (type_list_tokens listed ++ sign_at closing s.Greater ∷ [])
 
   pub type_list_tokens : TypeList → List Token
   type_list_tokens no_more_types = []
-  type_list_tokens (type_more comma argument rest) = maybe_sign comma s.Comma ++ (type_tokens argument ++ type_list_tokens rest)
+  type_list_tokens (type_more comma argument rest) =
+      maybe_sign comma s.Comma ++ (type_tokens argument ++ type_list_tokens rest)
 
 abbrev pub maybe_type : Option TypeNode → List Token
 maybe_type None = []
@@ -179,9 +202,12 @@ abbrev pub kind_tokens : VariableKind → List Token
 kind_tokens no_kind = []
 kind_tokens (var_kind place) = word_at place w.Var ∷ []
 kind_tokens (final_kind place x) = word_at place w.Final ∷ maybe_type x
+kind_tokens (const_kind place x) = word_at place w.Const ∷ maybe_type x
 kind_tokens (typed_kind x) = type_tokens x
 
 abbrev pub try_kind_tokens : TryKind → List Token
-try_kind_tokens (on_part place x c) = record { kind = tk.Identifier; place = place; lexeme = on_text } ∷ (type_tokens x ++ maybe_catch c)
+try_kind_tokens (on_part place x c) =
+    record { kind = tk.Identifier; place = place; lexeme = on_text } ∷
+    (type_tokens x ++ maybe_catch c)
 try_kind_tokens (catch_part c) = catch_tokens c
 try_kind_tokens (finally_part place) = word_at place w.Finally ∷ []

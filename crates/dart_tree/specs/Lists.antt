@@ -36,7 +36,8 @@ pieces_of (x ∷ xs) = t.piece x.kind x.place x.text (view.value x.value) (piece
 
 abbrev pub cascades_of : List Cascade → t.Cascades
 cascades_of [] = t.no_cascades
-cascades_of (x ∷ xs) = t.cascade x.dots (selectors_of x.selectors.items) (view.value x.value) (cascades_of xs)
+cascades_of (x ∷ xs) =
+    t.cascade x.dots (selectors_of x.selectors.items) (view.value x.value) (cascades_of xs)
 
 abbrev pub items_of : List Item → t.Items
 items_of [] = t.no_items
@@ -67,7 +68,9 @@ block_of x = t.the_block x.opening (stmts_of x.statements.items) x.closing
 
 abbrev pub switch_parts_of : List SwitchPart → t.SwitchParts
 switch_parts_of [] = t.no_switch_parts
-switch_parts_of (x ∷ xs) = t.switch_part x.labels.items x.word (view.value x.value) x.colon (stmts_of x.statements.items) (switch_parts_of xs)
+switch_parts_of (x ∷ xs) =
+    t.switch_part x.labels.items x.word (view.value x.value) x.colon (stmts_of x.statements.items)
+    (switch_parts_of xs)
 
 abbrev pub try_parts_of : List TryPart → t.TryParts
 try_parts_of [] = t.no_try_parts

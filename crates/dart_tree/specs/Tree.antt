@@ -1,4 +1,4 @@
--- Trees.
+-- Expressions, parameters and statements without where they lie in memory.
 use Rattle.std.specs.Prelude.{ℕ, List, Option}
 use Rattle.dart_base.specs.declared.place.Place.{Place}
 use Rattle.dart_tree.specs.declared.identifier.Identifier.{Identifier}
@@ -6,6 +6,7 @@ use Rattle.dart_tree.specs.declared.identifier.DotName.{DotName}
 use Rattle.dart_tree.specs.declared.identifier.Label.{Label}
 use Rattle.dart_tree.specs.declared.operator.Operator.{Operator}
 use Rattle.dart_tree.specs.declared.expression.Atom.{Atom}
+use Rattle.dart_tree.specs.declared.expression.Creation.{Creation}
 use Rattle.dart_tree.specs.declared.expression.PieceKind.{PieceKind}
 use Rattle.dart_tree.specs.declared.parameter.Brackets.{Brackets}
 use Rattle.dart_tree.specs.declared.parameter.Parentheses.{Parentheses}
@@ -35,7 +36,7 @@ mutual
     text : Pieces → Primary
     list_literal : y.TypeArguments → Place → Items → Option Place → Place → Primary
     map_literal : y.TypeArguments → Place → Entries → Option Place → Place → Primary
-    new_object : Place → y.TypeNode → Option DotName → Arguments → Primary
+    new_object : Creation → y.TypeNode → Option DotName → Arguments → Primary
     function_literal : Parameters → Body → Primary
     parenthesized : Place → Expr → Place → Primary
 
@@ -50,7 +51,8 @@ mutual
 
   pub data ParameterKind : Type 0 where
     plain_parameter : y.VariableKind → Option ThisDot → Identifier → ParameterKind
-    function_parameter : Option y.ResultType → Option ThisDot → Identifier → Parameters → ParameterKind
+    function_parameter :
+        Option y.ResultType → Option ThisDot → Identifier → Parameters → ParameterKind
 
   pub data Stmt : Type 0 where
     labelled : Label → Stmt → Stmt

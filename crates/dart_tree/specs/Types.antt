@@ -1,4 +1,4 @@
--- Types.
+-- Types as they are written, and what holds no more than types, without where they lie in memory.
 use Rattle.std.specs.Prelude.{Option}
 use Rattle.dart_base.specs.declared.place.Place.{Place}
 use Rattle.dart_tree.specs.declared.identifier.Identifier.{Identifier}
@@ -26,6 +26,7 @@ pub data VariableKind : Type 0 where
   no_kind : VariableKind
   var_kind : Place → VariableKind
   final_kind : Place → Option TypeNode → VariableKind
+  const_kind : Place → Option TypeNode → VariableKind
   typed_kind : TypeNode → VariableKind
 
 pub data TryKind : Type 0 where

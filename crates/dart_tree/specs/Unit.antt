@@ -50,10 +50,15 @@ pub record Initializers : Type 0 where
   pub items : List Init
 
 pub data Constructor : Type 0 where
-  generative : ConstructorName → t.Parameters → Option Initializers → t.Body → Constructor
-  redirecting : ConstructorName → t.Parameters → Place → Place → Option DotName → t.Arguments → Place → Constructor
+  generative :
+      Option Place → ConstructorName → t.Parameters → Option Initializers → t.Body → Constructor
+  redirecting :
+      ConstructorName → t.Parameters → Place → Place → Option DotName → t.Arguments → Place →
+      Constructor
   factory : Option Place → Place → ConstructorName → t.Parameters → t.Body → Constructor
-  redirecting_factory : Option Place → Place → ConstructorName → t.Parameters → Place → y.TypeNode → Option DotName → Place → Constructor
+  redirecting_factory :
+      Option Place → Place → ConstructorName → t.Parameters → Place → y.TypeNode → Option DotName →
+      Place → Constructor
 
 pub data AccessorKind : Type 0 where
   getter : Place → Identifier → AccessorKind
@@ -104,12 +109,22 @@ pub record Alias : Type 0 where
   pub parameters : t.Parameters
   pub semicolon : Place
 
+pub record Enum : Type 0 where
+  pub word : Place
+  pub name : Identifier
+  pub opening : Place
+  pub first : Identifier
+  pub more : List CommaName
+  pub comma : Option Place
+  pub closing : Place
+
 pub data DeclKind : Type 0 where
   class_decl : Class → DeclKind
   alias_decl : Alias → DeclKind
   function_decl : t.Function → DeclKind
   accessor_decl : Accessor → DeclKind
   variables_decl : t.Variables → DeclKind
+  enum_decl : Enum → DeclKind
 
 pub record Decl : Type 0 where
   pub metadata : t.Metadata

@@ -2,7 +2,8 @@
 use Rattle.std.specs.Prelude.{Option, Some, None}
 use Rattle.dart_tree.specs.declared.types.TypeNode.{TypeNode}
 use Rattle.dart_tree.specs.declared.types.TypeNode.TheVariants as tn
-use Rattle.dart_tree.specs.declared.types.TypeArguments.{TypeArguments, Row_of-TypeArgument, end_of-TypeArgument, more_of-TypeArgument}
+use Rattle.dart_tree.specs.declared.types.TypeArguments.{TypeArguments, Row_of-TypeArgument}
+use Rattle.dart_tree.specs.declared.types.TypeArguments.{end_of-TypeArgument, more_of-TypeArgument}
 use Rattle.dart_tree.specs.declared.types.TypeArguments.TheVariants as ta
 use Rattle.dart_tree.specs.declared.types.ResultType.{ResultType}
 use Rattle.dart_tree.specs.declared.types.ResultType.TheVariants as rt
@@ -37,16 +38,23 @@ use Rattle.dart_tree.specs.declared.parameter.Annotation.{Annotation, Annotation
 use Rattle.dart_tree.specs.declared.statement.Variables.{Variables, Variables'}
 use Rattle.dart_tree.specs.declared.statement.Function.{Function, Function'}
 use Rattle.dart_tree.specs.declared.expression.Operand.{Row_of-Tail, end_of-Tail, more_of-Tail}
-use Rattle.dart_tree.specs.declared.expression.Primary.{Row_of-StringPiece, end_of-StringPiece, more_of-StringPiece}
-use Rattle.dart_tree.specs.declared.expression.Operand.{Row_of-Selector, end_of-Selector, more_of-Selector}
-use Rattle.dart_tree.specs.declared.expression.Expr.{Row_of-Cascade, end_of-Cascade, more_of-Cascade}
+use Rattle.dart_tree.specs.declared.expression.Primary.{Row_of-StringPiece, end_of-StringPiece}
+use Rattle.dart_tree.specs.declared.expression.Primary.{more_of-StringPiece}
+use Rattle.dart_tree.specs.declared.expression.Operand.{Row_of-Selector, end_of-Selector}
+use Rattle.dart_tree.specs.declared.expression.Operand.{more_of-Selector}
+use Rattle.dart_tree.specs.declared.expression.Expr.{Row_of-Cascade, end_of-Cascade}
+use Rattle.dart_tree.specs.declared.expression.Expr.{more_of-Cascade}
 use Rattle.dart_tree.specs.declared.expression.Primary.{Row_of-Item, end_of-Item, more_of-Item}
 use Rattle.dart_tree.specs.declared.expression.Primary.{Row_of-Entry, end_of-Entry, more_of-Entry}
-use Rattle.dart_tree.specs.declared.parameter.Parameters.{Row_of-Parameter, end_of-Parameter, more_of-Parameter}
-use Rattle.dart_tree.specs.declared.parameter.Parameter.{Row_of-Annotation, end_of-Annotation, more_of-Annotation}
+use Rattle.dart_tree.specs.declared.parameter.Parameters.{Row_of-Parameter, end_of-Parameter}
+use Rattle.dart_tree.specs.declared.parameter.Parameters.{more_of-Parameter}
+use Rattle.dart_tree.specs.declared.parameter.Parameter.{Row_of-Annotation, end_of-Annotation}
+use Rattle.dart_tree.specs.declared.parameter.Parameter.{more_of-Annotation}
 use Rattle.dart_tree.specs.declared.statement.Stmt.{Row_of-Stmt, end_of-Stmt, more_of-Stmt}
-use Rattle.dart_tree.specs.declared.statement.Variables.{Row_of-Variable, end_of-Variable, more_of-Variable}
-use Rattle.dart_tree.specs.declared.statement.Stmt.{Row_of-SwitchPart, end_of-SwitchPart, more_of-SwitchPart}
+use Rattle.dart_tree.specs.declared.statement.Variables.{Row_of-Variable, end_of-Variable}
+use Rattle.dart_tree.specs.declared.statement.Variables.{more_of-Variable}
+use Rattle.dart_tree.specs.declared.statement.Stmt.{Row_of-SwitchPart, end_of-SwitchPart}
+use Rattle.dart_tree.specs.declared.statement.Stmt.{more_of-SwitchPart}
 use Rattle.dart_tree.specs.declared.statement.Stmt.{Row_of-TryPart, end_of-TryPart, more_of-TryPart}
 
 abbrev mutual
@@ -56,7 +64,7 @@ abbrev mutual
 
   pub type_arguments : TypeArguments → y.TypeArguments
   type_arguments ta.Omitted = y.no_types
-  type_arguments (ta.Listed' opening n row closing) = y.listed_types opening (type_list row) closing
+  type_arguments (ta.Listed' opening _ row closing) = y.listed_types opening (type_list row) closing
 
   pub type_list : {m : _} → Row_of-TypeArgument m → y.TypeList
   type_list end_of-TypeArgument = y.no_more_types
@@ -78,6 +86,7 @@ abbrev pub variable_kind : VariableKind → y.VariableKind
 variable_kind vk.Omitted = y.no_kind
 variable_kind (vk.Var p) = y.var_kind p
 variable_kind (vk.Final p x) = y.final_kind p (type_option x)
+variable_kind (vk.Const p x) = y.const_kind p (type_option x)
 variable_kind (vk.Typed x) = y.typed_kind (type_node x)
 
 abbrev pub try_kind : TryKind → y.TryKind
@@ -87,94 +96,119 @@ try_kind (tk.Finally p) = y.finally_part p
 
 unfoldable mutual
   pub expr : Expr → t.Expr
-  expr (e.Assign' target operator b1 value0) = t.assign (operand target) operator (expr value0)
-  expr (e.Plain' operand0 n2 cascades0) = t.plain (operand operand0) (cascades cascades0)
-  expr (e.Throw' word b3 value0) = t.throw word (expr value0)
+  expr (e.Assign' target operator _ given) = t.assign (operand target) operator (expr given)
+  expr (e.Plain' base _ more) = t.plain (operand base) (cascades more)
+  expr (e.Throw' word _ given) = t.throw word (expr given)
 
   pub operand : Operand → t.Operand
-  operand (o.Conditional' b1 condition question b2 first colon b3 second) = t.conditional (operand condition) question (expr first) colon (expr second)
-  operand (o.Binary' b4 first n5 more) = t.binary (operand first) (tails more)
-  operand (o.Is' b6 operand0 word bang of) = t.is_type (operand operand0) word bang (type_node of)
-  operand (o.As' b7 operand0 word of) = t.as_type (operand operand0) word (type_node of)
-  operand (o.Prefix' operator b8 operand0) = t.prefix operator (operand operand0)
-  operand (o.Postfix' operand0 n9 selectors0 operator) = t.postfix (primary operand0) (selectors selectors0) operator
-  operand (o.Primary primary0) = t.primary (primary primary0)
+  operand (o.Conditional' _ condition question _ first colon _ second) =
+      t.conditional (operand condition) question (expr first) colon (expr second)
+  operand (o.Binary' _ first _ more) = t.binary (operand first) (tails more)
+  operand (o.Is' _ base word bang of) = t.is_type (operand base) word bang (type_node of)
+  operand (o.As' _ base word of) = t.as_type (operand base) word (type_node of)
+  operand (o.Prefix' operator _ base) = t.prefix operator (operand base)
+  operand (o.Postfix' base _ more operator) = t.postfix (primary base) (selectors more) operator
+  operand (o.Primary base) = t.primary (primary base)
 
   pub primary : Primary → t.Primary
-  primary (p.Super' word b1 selector0) = t.super_access word (selector selector0)
+  primary (p.Super' word _ next) = t.super_access word (selector next)
   primary (p.BareSuper word) = t.bare_super word
   primary (p.Atom atom) = t.atom atom
-  primary (p.Text' n2 pieces0) = t.text (pieces pieces0)
-  primary (p.List' types0 opening n3 items0 comma closing) = t.list_literal (type_arguments types0) opening (items items0) comma closing
-  primary (p.Map' types0 opening n4 entries0 comma closing) = t.map_literal (type_arguments types0) opening (entries entries0) comma closing
-  primary (p.New word of constructor arguments0) = t.new_object word (type_node of) constructor (arguments arguments0)
-  primary (p.Function parameters0 body0) = t.function_literal (parameters parameters0) (body body0)
-  primary (p.Parenthesized' opening b5 value0 closing) = t.parenthesized opening (expr value0) closing
+  primary (p.Text' _ all) = t.text (pieces all)
+  primary (p.List' kinds opening _ all comma closing) =
+      t.list_literal (type_arguments kinds) opening (items all) comma closing
+  primary (p.Map' kinds opening _ all comma closing) =
+      t.map_literal (type_arguments kinds) opening (entries all) comma closing
+  primary (p.New creation class constructor given) =
+      t.new_object creation (type_node class) constructor (arguments given)
+  primary (p.Function given inner) = t.function_literal (parameters given) (body inner)
+  primary (p.Parenthesized' opening _ given closing) = t.parenthesized opening (expr given) closing
 
   pub selector : Selector → t.Selector
   selector (s.Member dot name) = t.member dot name
-  selector (s.Index' opening b1 value0 closing) = t.index opening (expr value0) closing
-  selector (s.Call arguments0) = t.call (arguments arguments0)
+  selector (s.Index' opening _ given closing) = t.index opening (expr given) closing
+  selector (s.Call given) = t.call (arguments given)
 
   pub value : Value → t.Value
   value v.Omitted = t.omitted
-  value (v.Given' operator b1 value0) = t.given operator (expr value0)
+  value (v.Given' operator _ given) = t.given operator (expr given)
 
   pub parameter_kind : ParameterKind → t.ParameterKind
   parameter_kind (k.Plain kind this_dot name) = t.plain_parameter (variable_kind kind) this_dot name
-  parameter_kind (k.Function result_type this_dot name parameters0) = t.function_parameter (result_option result_type) this_dot name (parameters parameters0)
+  parameter_kind (k.Function result_type this_dot name given) =
+      t.function_parameter (result_option result_type) this_dot name (parameters given)
 
   pub stmt : Stmt → t.Stmt
-  stmt (st.Labelled' label b1 statement) = t.labelled label (stmt statement)
-  stmt (st.Block' block_opening n2 block_statements block_closing) = t.block_stmt (t.the_block block_opening (stmts block_statements) block_closing)
-  stmt (st.Variables variables0) = t.variables_stmt (variables variables0)
-  stmt (st.Function function0) = t.function_stmt (function function0)
-  stmt (st.If' word opening condition closing b3 first) = t.if_stmt word opening (expr condition) closing (stmt first)
-  stmt (st.IfElse' word opening condition closing b4 first other b5 second) = t.if_else word opening (expr condition) closing (stmt first) other (stmt second)
-  stmt (st.Loop loop0) = t.loop (loop loop0)
-  stmt (st.Switch' word opening value0 closing left n6 parts right) = t.switch_stmt word opening (expr value0) closing left (switch_parts parts) right
-  stmt (st.Try' word block_opening n7 block_statements block_closing n8 parts) = t.try_stmt word (t.the_block block_opening (stmts block_statements) block_closing) (try_parts parts)
-  stmt (st.Return word value0 semicolon) = t.return_stmt word (value value0) semicolon
+  stmt (st.Labelled' label _ statement) = t.labelled label (stmt statement)
+  stmt (st.Block' block_opening _ block_statements block_closing) =
+      t.block_stmt (t.the_block block_opening (stmts block_statements) block_closing)
+  stmt (st.Variables declared) = t.variables_stmt (variables declared)
+  stmt (st.Function made) = t.function_stmt (function made)
+  stmt (st.If' word opening condition closing _ first) =
+      t.if_stmt word opening (expr condition) closing (stmt first)
+  stmt (st.IfElse' word opening condition closing _ first other _ second) =
+      t.if_else word opening (expr condition) closing (stmt first) other (stmt second)
+  stmt (st.Loop again) = t.loop (loop again)
+  stmt (st.Switch' word opening given closing left _ parts right) =
+      t.switch_stmt word opening (expr given) closing left (switch_parts parts) right
+  stmt (st.Try' word block_opening _ block_statements block_closing _ parts) =
+      t.try_stmt word (t.the_block block_opening (stmts block_statements) block_closing)
+      (try_parts parts)
+  stmt (st.Return word given semicolon) = t.return_stmt word (value given) semicolon
   stmt (st.Jump jump) = t.jump jump
-  stmt (st.Expression value0 semicolon) = t.expression_stmt (value value0) semicolon
+  stmt (st.Expression given semicolon) = t.expression_stmt (value given) semicolon
 
   pub loop : Loop → t.Loop
-  loop (l.For' word opening start first_semicolon condition semicolon n1 updates closing b2 body0) = t.for_loop word opening (value start) first_semicolon (value condition) semicolon (items updates) closing (stmt body0)
-  loop (l.ForVariables' word opening variables0 condition semicolon n3 updates closing b4 body0) = t.for_variables word opening (variables variables0) (value condition) semicolon (items updates) closing (stmt body0)
-  loop (l.ForIn' word opening kind name inside iterated closing b5 body0) = t.for_in word opening (variable_kind kind) name inside (expr iterated) closing (stmt body0)
-  loop (l.While' word opening condition closing b6 body0) = t.while_loop word opening (expr condition) closing (stmt body0)
-  loop (l.Do' word b7 body0 again opening condition closing semicolon) = t.do_loop word (stmt body0) again opening (expr condition) closing semicolon
+  loop (l.For' word opening start first_semicolon condition semicolon _ updates closing _ inner) =
+      t.for_loop word opening (value start) first_semicolon (value condition) semicolon
+      (items updates) closing (stmt inner)
+  loop (l.ForVariables' word opening declared condition semicolon _ updates closing _ inner) =
+      t.for_variables word opening (variables declared) (value condition) semicolon
+      (items updates) closing (stmt inner)
+  loop (l.ForIn' word opening kind name inside iterated closing _ inner) =
+      t.for_in word opening (variable_kind kind) name inside (expr iterated) closing (stmt inner)
+  loop (l.While' word opening condition closing _ inner) =
+      t.while_loop word opening (expr condition) closing (stmt inner)
+  loop (l.Do' word _ inner again opening condition closing semicolon) =
+      t.do_loop word (stmt inner) again opening (expr condition) closing semicolon
 
   pub body : Body → t.Body
-  body (b.Arrow' arrow b1 value0 semicolon) = t.arrow_body arrow (expr value0) semicolon
-  body (b.Block' block_opening n2 block_statements block_closing) = t.block_body (t.the_block block_opening (stmts block_statements) block_closing)
+  body (b.Arrow' arrow _ given semicolon) = t.arrow_body arrow (expr given) semicolon
+  body (b.Block' block_opening _ block_statements block_closing) =
+      t.block_body (t.the_block block_opening (stmts block_statements) block_closing)
   body (b.Omitted semicolon) = t.no_body semicolon
 
   pub arguments : Arguments → t.Arguments
-  arguments (Arguments' opening n1 items0 closing) = t.the_arguments opening (items items0) closing
+  arguments (Arguments' opening _ all closing) = t.the_arguments opening (items all) closing
 
   pub parameters : Parameters → t.Parameters
-  parameters (Parameters' opening n1 required brackets n2 optional closing) = t.the_parameters opening (parameter_list required) brackets (parameter_list optional) closing
+  parameters (Parameters' opening _ required brackets _ optional closing) =
+      t.the_parameters opening (parameter_list required) brackets (parameter_list optional) closing
 
   pub parameter : Parameter → t.Parameter
-  parameter (Parameter' comma n1 metadata0 kind value0) = t.the_parameter comma (metadata metadata0) (parameter_kind kind) (value value0)
+  parameter (Parameter' comma _ annotations kind given) =
+      t.the_parameter comma (metadata annotations) (parameter_kind kind) (value given)
 
   pub annotation : Annotation → t.Annotation
-  annotation (Annotation' at name more call n1 items0) = t.the_annotation at name more.items call (items items0)
+  annotation (Annotation' at name more call _ all) =
+      t.the_annotation at name more.items call (items all)
 
   pub variables : Variables → t.Variables
-  variables (Variables' kind name value0 n1 more semicolon) = t.the_variables (variable_kind kind) name (value value0) (more_variables more) semicolon
+  variables (Variables' kind name given _ more semicolon) =
+      t.the_variables (variable_kind kind) name (value given) (more_variables more) semicolon
 
   pub function : Function → t.Function
-  function (Function' external result_type name parameters0 body0) = t.the_function external (result_option result_type) name (parameters parameters0) (body body0)
+  function (Function' external result_type name given inner) =
+      t.the_function external (result_option result_type) name (parameters given) (body inner)
 
   pub tails : {m : _} → Row_of-Tail m → t.Tails
   tails end_of-Tail = t.no_tails
-  tails (more_of-Tail operator operand0 rest) = t.tail operator (operand operand0) (tails rest)
+  tails (more_of-Tail operator base rest) = t.tail operator (operand base) (tails rest)
 
   pub pieces : {m : _} → Row_of-StringPiece m → t.Pieces
   pieces end_of-StringPiece = t.no_pieces
-  pieces (more_of-StringPiece kind place text value0 rest) = t.piece kind place text (value value0) (pieces rest)
+  pieces (more_of-StringPiece kind place text given rest) =
+      t.piece kind place text (value given) (pieces rest)
 
   pub selectors : {m : _} → Row_of-Selector m → t.Selectors
   selectors end_of-Selector = t.no_selectors
@@ -182,15 +216,17 @@ unfoldable mutual
 
   pub cascades : {m : _} → Row_of-Cascade m → t.Cascades
   cascades end_of-Cascade = t.no_cascades
-  cascades (more_of-Cascade dots n1 selectors0 value0 rest) = t.cascade dots (selectors selectors0) (value value0) (cascades rest)
+  cascades (more_of-Cascade dots _ more given rest) =
+      t.cascade dots (selectors more) (value given) (cascades rest)
 
   pub items : {m : _} → Row_of-Item m → t.Items
   items end_of-Item = t.no_items
-  items (more_of-Item comma label value0 rest) = t.item comma label (expr value0) (items rest)
+  items (more_of-Item comma label given rest) = t.item comma label (expr given) (items rest)
 
   pub entries : {m : _} → Row_of-Entry m → t.Entries
   entries end_of-Entry = t.no_entries
-  entries (more_of-Entry comma key colon value0 rest) = t.entry comma (expr key) colon (expr value0) (entries rest)
+  entries (more_of-Entry comma key colon given rest) =
+      t.entry comma (expr key) colon (expr given) (entries rest)
 
   pub parameter_list : {m : _} → Row_of-Parameter m → t.ParameterList
   parameter_list end_of-Parameter = t.no_parameters
@@ -206,12 +242,16 @@ unfoldable mutual
 
   pub more_variables : {m : _} → Row_of-Variable m → t.MoreVariables
   more_variables end_of-Variable = t.no_variables
-  more_variables (more_of-Variable comma name value0 rest) = t.variable comma name (value value0) (more_variables rest)
+  more_variables (more_of-Variable comma name given rest) =
+      t.variable comma name (value given) (more_variables rest)
 
   pub switch_parts : {m : _} → Row_of-SwitchPart m → t.SwitchParts
   switch_parts end_of-SwitchPart = t.no_switch_parts
-  switch_parts (more_of-SwitchPart labels word value0 colon n1 statements0 rest) = t.switch_part labels.items word (value value0) colon (stmts statements0) (switch_parts rest)
+  switch_parts (more_of-SwitchPart labels word given colon _ inner rest) =
+      t.switch_part labels.items word (value given) colon (stmts inner) (switch_parts rest)
 
   pub try_parts : {m : _} → Row_of-TryPart m → t.TryParts
   try_parts end_of-TryPart = t.no_try_parts
-  try_parts (more_of-TryPart kind block_opening n1 block_statements block_closing rest) = t.try_part (try_kind kind) (t.the_block block_opening (stmts block_statements) block_closing) (try_parts rest)
+  try_parts (more_of-TryPart kind block_opening _ block_statements block_closing rest) =
+      t.try_part (try_kind kind) (t.the_block block_opening (stmts block_statements) block_closing)
+      (try_parts rest)

@@ -1,6 +1,6 @@
 // Declarations of classes, their members, aliases and accessors.
 use crate::expression::{Arguments, Cascade, Operand};
-use crate::identifier::{DotName, Identifier};
+use crate::identifier::{CommaName, DotName, Identifier};
 use crate::parameter::{Annotation, Parameters, ThisDot};
 use crate::statement::{Body, Function, Variables};
 use crate::types::{ResultType, TypeArgument, TypeNode};
@@ -14,19 +14,33 @@ pub struct Decl {
     pub kind: DeclKind,
 }
 
-/// What a declaration declares.
+/// What a declaration declares (ECMA-408, 18 Libraries and Scripts).
 #[derive(Drop)]
 pub enum DeclKind {
-    /// `class A { }`
+    /// `class A { }` (10 Classes)
     Class(Class),
-    /// `typedef int A(b);`
+    /// `typedef int A(b);` (19.3.1 Typedef)
     Alias(Alias),
-    /// `a(b) { }`
+    /// `a(b) { }` (9 Functions)
     Function(Function),
-    /// `get a => b;`
+    /// `get a => b;` (10.2 Getters and 10.3 Setters)
     Accessor(Accessor),
-    /// `var a = b;`
+    /// `var a = b;` (8 Variables)
     Variables(Variables),
+    /// `enum A { b, c }` (13 Enums)
+    Enum(Enum),
+}
+
+/// `enum A { b, c, }`, with the comma that may stand before the brace (ECMA-408, 13 Enums).
+#[derive(Drop)]
+pub struct Enum {
+    pub word: Place,
+    pub name: Identifier,
+    pub opening: Place,
+    pub first: Identifier,
+    pub more: Vec<CommaName>,
+    pub comma: Option<Place>,
+    pub closing: Place,
 }
 
 /// `abstract class A<B>` and what follows (ECMA-408, 10 Classes).
@@ -39,13 +53,25 @@ pub struct Class {
     pub kind: ClassKind,
 }
 
-/// How a class is declared.
+/// How a class is declared (ECMA-408, 10 Classes).
 #[derive(Drop)]
 pub enum ClassKind {
-    /// `extends A with B implements C { }`
-    Declared(Option<Superclass>, Option<TypeClause>, Place, Vec<Member>, Place),
+    /// `extends A with B implements C { }` (10 Classes)
+    Declared {
+        superclass: Option<Superclass>,
+        interfaces: Option<TypeClause>,
+        opening: Place,
+        members: Vec<Member>,
+        closing: Place,
+    },
     /// `= A with B implements C;` (12.1 Mixin Application)
-    Mixed(Place, TypeNode, TypeClause, Option<TypeClause>, Place),
+    Mixed {
+        equals: Place,
+        superclass: TypeNode,
+        mixins: TypeClause,
+        interfaces: Option<TypeClause>,
+        semicolon: Place,
+    },
 }
 
 /// `extends A with B` (ECMA-408, 10.9 Superclasses).
@@ -71,7 +97,7 @@ pub struct TypeParameters {
     pub closing: Place,
 }
 
-/// `A extends B`
+/// `A extends B` (ECMA-408, 14 Generics).
 #[derive(Drop)]
 pub struct TypeParameter {
     pub comma: Option<Place>,
@@ -80,7 +106,7 @@ pub struct TypeParameter {
     pub bound: Option<Bound>,
 }
 
-/// `extends A`
+/// `extends A`, the bound of a type parameter (ECMA-408, 14 Generics).
 #[derive(Drop)]
 pub struct Bound {
     pub word: Place,
@@ -107,13 +133,17 @@ pub struct Accessor {
     pub body: Body,
 }
 
-/// Which accessor it is.
+/// Which accessor it is (ECMA-408, 10.2 Getters and 10.3 Setters).
 #[derive(Drop)]
 pub enum AccessorKind {
-    /// `get a`
+    /// `get a` (10.2 Getters)
     Get(Place, Identifier),
-    /// `set a(b)`
-    Set(Place, Identifier, Parameters),
+    /// `set a(b)` (10.3 Setters)
+    Set {
+        word: Place,
+        name: Identifier,
+        parameters: Parameters,
+    },
 }
 
 /// A member of a class, with its metadata (ECMA-408, 10 Classes).
@@ -124,7 +154,7 @@ pub struct Member {
     pub kind: MemberKind,
 }
 
-/// What stands before a static member.
+/// What stands before a static member (ECMA-408, 10.7 Static Methods and 10.8 Static Variables).
 #[derive(Clone, Copy, Debug, PartialEq, Eq)]
 pub enum Modifier {
     /// Nothing.
@@ -135,18 +165,18 @@ pub enum Modifier {
     ExternalStatic(Place, Place),
 }
 
-/// What a member declares.
+/// What a member declares (ECMA-408, 10 Classes).
 #[derive(Drop)]
 pub enum MemberKind {
-    /// `A.b(c) : d = e;`
+    /// `A.b(c) : d = e;` (10.6 Constructors)
     Constructor(Constructor),
     /// `a(b) { }` (10.1 Instance Methods and 10.7 Static Methods)
     Function(Function),
-    /// `get a => b;`
+    /// `get a => b;` (10.2 Getters and 10.3 Setters)
     Accessor(Accessor),
     /// `var a = b;` (10.5 Instance Variables and 10.8 Static Variables)
     Variables(Variables),
-    /// `operator +(a) => b;`
+    /// `operator +(a) => b;` (10.1.1 Operators)
     Operator(OperatorMember),
 }
 
@@ -161,7 +191,7 @@ pub struct OperatorMember {
     pub body: Body,
 }
 
-/// The operators that a class may declare.
+/// The operators that a class may declare (ECMA-408, 10.1.1 Operators).
 #[derive(Clone, Copy, Debug, PartialEq, Eq)]
 pub enum OperatorName {
     /// `+`, `==`, `~` and the like, of one sign
@@ -171,10 +201,14 @@ pub enum OperatorName {
     /// `[ ]`
     Index(Place, Place),
     /// `[ ] =`
-    IndexAssign(Place, Place, Place),
+    IndexAssign {
+        opening: Place,
+        closing: Place,
+        equals: Place,
+    },
 }
 
-/// `A` or `A.b`, the name of a constructor.
+/// `A` or `A.b`, the name of a constructor (ECMA-408, 10.6 Constructors).
 #[derive(Drop)]
 pub struct ConstructorName {
     pub class: Identifier,
@@ -184,26 +218,46 @@ pub struct ConstructorName {
 /// A constructor (ECMA-408, 10.6 Constructors).
 #[derive(Drop)]
 pub enum Constructor {
-    /// `A(b) : c = d { }` (10.6.1 Generative Constructors)
-    Generative(ConstructorName, Parameters, Option<Initializers>, Body),
+    /// `A(b) : c = d { }` (10.6.1 Generative Constructors) or `const A(b) : c = d;` (10.6.3 Constant Constructors)
+    Generative {
+        constant: Option<Place>,
+        name: ConstructorName,
+        parameters: Parameters,
+        initializers: Option<Initializers>,
+        body: Body,
+    },
     /// `A(b) : this.c(d);` (10.6.1, Redirecting Constructors)
-    Redirecting(ConstructorName, Parameters, Place, Place, Option<DotName>, Arguments, Place),
+    Redirecting {
+        name: ConstructorName,
+        parameters: Parameters,
+        colon: Place,
+        this: Place,
+        constructor: Option<DotName>,
+        arguments: Arguments,
+        semicolon: Place,
+    },
     /// `factory A(b) { }` (10.6.2 Factories)
-    Factory(Option<Place>, Place, ConstructorName, Parameters, Body),
+    Factory {
+        external: Option<Place>,
+        word: Place,
+        name: ConstructorName,
+        parameters: Parameters,
+        body: Body,
+    },
     /// `factory A(b) = C.d;` (10.6.2 Factories, Redirecting Factory Constructors)
-    RedirectingFactory(
-        Option<Place>,
-        Place,
-        ConstructorName,
-        Parameters,
-        Place,
-        TypeNode,
-        Option<DotName>,
-        Place,
-    ),
+    RedirectingFactory {
+        external: Option<Place>,
+        word: Place,
+        name: ConstructorName,
+        parameters: Parameters,
+        equals: Place,
+        class: TypeNode,
+        constructor: Option<DotName>,
+        semicolon: Place,
+    },
 }
 
-/// `: super(a), b = c`
+/// `: super(a), b = c` (ECMA-408, 10.6.1, Initializer Lists).
 #[derive(Drop)]
 pub struct Initializers {
     pub colon: Place,
@@ -217,11 +271,21 @@ pub struct Init {
     pub kind: InitKind,
 }
 
-/// What an initializer does.
+/// What an initializer does (ECMA-408, 10.6.1, Initializer Lists).
 #[derive(Drop)]
 pub enum InitKind {
     /// `super.a(b)`
-    Super(Place, Option<DotName>, Arguments),
+    Super {
+        word: Place,
+        constructor: Option<DotName>,
+        arguments: Arguments,
+    },
     /// `this.a = b..c()`
-    Field(Option<ThisDot>, Identifier, Place, Operand, Vec<Cascade>),
+    Field {
+        this_dot: Option<ThisDot>,
+        name: Identifier,
+        equals: Place,
+        operand: Operand,
+        cascades: Vec<Cascade>,
+    },
 }

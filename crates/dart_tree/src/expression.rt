@@ -14,7 +14,11 @@ use dart_token::token::Quote;
 #[cycle(tree)]
 pub enum Expr {
     /// `a = b` or `a += b` (16.19 Assignment)
-    Assign(Operand, Operator, Box<Expr>),
+    Assign {
+        target: Operand,
+        operator: Operator,
+        value: Box<Expr>,
+    },
     /// `a` or `a..b = c..d()` (16.17 Method Invocation, Cascaded Invocations)
     Plain(Operand, Vec<Cascade>),
     /// `throw a` (16.9 Throw)
@@ -26,29 +30,53 @@ impl Drop for Expr {
     #[cycle(drops)]
     fn drop(self) {
         match self {
-            Expr::Assign(_, _, _) => {}
+            Expr::Assign {
+                target: _,
+                operator: _,
+                value: _,
+            } => {}
             Expr::Plain(_, _) => {}
             Expr::Throw(_, _) => {}
         }
     }
 }
 
-/// What an operator applies to: the levels from a conditional to a postfix expression, and a primary.
+/// What an operator applies to: the levels from a conditional to a postfix expression, and a primary (ECMA-408, 16.20
+/// Conditional to 16.35 Type Cast).
 #[cycle(tree)]
 pub enum Operand {
     /// `a ? b : c` (16.20 Conditional)
-    Conditional(Box<Operand>, Place, Box<Expr>, Place, Box<Expr>),
+    Conditional {
+        condition: Box<Operand>,
+        question: Place,
+        first: Box<Expr>,
+        colon: Place,
+        second: Box<Expr>,
+    },
     /// `a + b - c`, a chain of one level of binary operators: `||`, `&&`, equality, relation, `|`, `^`, `&`, shift,
     /// sum and product (16.22 to 16.28)
     Binary(Box<Operand>, Vec<Tail>),
     /// `a is T` or `a is! T` (16.34 Type Test)
-    Is(Box<Operand>, Place, Option<Place>, TypeNode),
+    Is {
+        operand: Box<Operand>,
+        word: Place,
+        bang: Option<Place>,
+        type_node: TypeNode,
+    },
     /// `a as T` (16.35 Type Cast)
-    As(Box<Operand>, Place, TypeNode),
+    As {
+        operand: Box<Operand>,
+        word: Place,
+        type_node: TypeNode,
+    },
     /// `-a`, `!a`, `~a`, `++a` or `--a` (16.29 Unary Expressions)
     Prefix(Operator, Box<Operand>),
     /// `a.b[c](d)`, `a++` or `a.b--` (16.31 Postfix Expressions)
-    Postfix(Primary, Vec<Selector>, Option<Operator>),
+    Postfix {
+        primary: Primary,
+        selectors: Vec<Selector>,
+        operator: Option<Operator>,
+    },
     /// `a`
     Primary(Primary),
 }
@@ -57,38 +85,78 @@ impl Drop for Operand {
     #[cycle(drops)]
     fn drop(self) {
         match self {
-            Operand::Conditional(_, _, _, _, _) => {}
+            Operand::Conditional {
+                condition: _,
+                question: _,
+                first: _,
+                colon: _,
+                second: _,
+            } => {}
             Operand::Binary(_, _) => {}
-            Operand::Is(_, _, _, _) => {}
-            Operand::As(_, _, _) => {}
+            Operand::Is {
+                operand: _,
+                word: _,
+                bang: _,
+                type_node: _,
+            } => {}
+            Operand::As {
+                operand: _,
+                word: _,
+                type_node: _,
+            } => {}
             Operand::Prefix(_, _) => {}
-            Operand::Postfix(_, _, _) => {}
+            Operand::Postfix {
+                primary: _,
+                selectors: _,
+                operator: _,
+            } => {}
             Operand::Primary(_) => {}
         }
     }
 }
 
-/// What a selector applies to.
+/// What a selector applies to (ECMA-408, 16 Expressions).
 #[cycle(tree)]
 pub enum Primary {
-    /// `super.a`, `super[a]` or `super(a)`
+    /// `super.a`, `super[a]` or `super(a)` (16.17.3 Super Invocation)
     Super(Place, Box<Selector>),
-    /// `super` where an operator is called on it
+    /// `super` where an operator is called on it (16.22 to 16.29)
     BareSuper(Place),
-    /// `this`, a literal of one token or an identifier
+    /// `this`, a literal of one token or an identifier (16.2 to 16.4, 16.11 This, 16.33 Identifier Reference)
     Atom(Atom),
     /// `'a' 'b$c ${d} e'` (16.5 Strings)
     Text(Vec<StringPiece>),
     /// `<A>[a, b]` (16.7 Lists)
-    List(TypeArguments, Place, Vec<Item>, Option<Place>, Place),
+    List {
+        type_arguments: TypeArguments,
+        opening: Place,
+        items: Vec<Item>,
+        comma: Option<Place>,
+        closing: Place,
+    },
     /// `<A, B>{a: b, c: d}` (16.8 Maps)
-    Map(TypeArguments, Place, Vec<Entry>, Option<Place>, Place),
-    /// `new A.b(c)` (16.12 Instance Creation)
-    New(Place, TypeNode, Option<DotName>, Arguments),
+    Map {
+        type_arguments: TypeArguments,
+        opening: Place,
+        entries: Vec<Entry>,
+        comma: Option<Place>,
+        closing: Place,
+    },
+    /// `new A.b(c)` or `const A.b(c)` (16.12 Instance Creation)
+    New {
+        creation: Creation,
+        class: TypeNode,
+        constructor: Option<DotName>,
+        arguments: Arguments,
+    },
     /// `(a) => b` or `(a) { b; }` (16.10 Function Expressions)
     Function(Parameters, Body),
-    /// `(a)`
-    Parenthesized(Place, Box<Expr>, Place),
+    /// `(a)` (16 Expressions)
+    Parenthesized {
+        opening: Place,
+        value: Box<Expr>,
+        closing: Place,
+    },
 }
 
 impl Drop for Primary {
@@ -99,16 +167,46 @@ impl Drop for Primary {
             Primary::BareSuper(_) => {}
             Primary::Atom(_) => {}
             Primary::Text(_) => {}
-            Primary::List(_, _, _, _, _) => {}
-            Primary::Map(_, _, _, _, _) => {}
-            Primary::New(_, _, _, _) => {}
+            Primary::List {
+                type_arguments: _,
+                opening: _,
+                items: _,
+                comma: _,
+                closing: _,
+            } => {}
+            Primary::Map {
+                type_arguments: _,
+                opening: _,
+                entries: _,
+                comma: _,
+                closing: _,
+            } => {}
+            Primary::New {
+                creation: _,
+                class: _,
+                constructor: _,
+                arguments: _,
+            } => {}
             Primary::Function(_, _) => {}
-            Primary::Parenthesized(_, _, _) => {}
+            Primary::Parenthesized {
+                opening: _,
+                value: _,
+                closing: _,
+            } => {}
         }
     }
 }
 
-/// An expression of one token.
+/// The word that creates an instance, at its place (ECMA-408, 16.12 Instance Creation).
+#[derive(Clone, Copy, Debug, PartialEq, Eq)]
+pub enum Creation {
+    /// `new` (16.12.1 New)
+    New(Place),
+    /// `const` (16.12.2 Const)
+    Const(Place),
+}
+
+/// An expression of one token (ECMA-408, 16 Expressions).
 #[derive(Drop)]
 pub enum Atom {
     /// `this` (16.11 This)
@@ -125,7 +223,7 @@ pub enum Atom {
     Name(Identifier),
 }
 
-/// `+ a`, an operand with the operator before it.
+/// `+ a`, an operand with the operator before it (ECMA-408, 16.22 to 16.28).
 #[cycle(tree)]
 #[derive(Drop)]
 pub struct Tail {
@@ -146,7 +244,7 @@ pub enum PieceKind {
     Tail,
 }
 
-/// A piece of a string, with the interpolated expression that follows a head or a middle.
+/// A piece of a string, with the interpolated expression that follows a head or a middle (ECMA-408, 16.5 Strings).
 #[cycle(tree)]
 #[derive(Drop)]
 pub struct StringPiece {
@@ -159,11 +257,15 @@ pub struct StringPiece {
 /// A selector (ECMA-408, 16.14 to 16.18).
 #[cycle(tree)]
 pub enum Selector {
-    /// `.a`, or `a` directly behind the `..` of a cascade
+    /// `.a`, or `a` directly behind the `..` of a cascade (16.17 Method Invocation and 16.18 Property Extraction)
     Member(Option<Place>, Identifier),
-    /// `[a]`
-    Index(Place, Box<Expr>, Place),
-    /// `(a, b: c)`
+    /// `[a]` (16.32 Assignable Expressions)
+    Index {
+        opening: Place,
+        value: Box<Expr>,
+        closing: Place,
+    },
+    /// `(a, b: c)` (16.14 Function Invocation)
     Call(Arguments),
 }
 
@@ -172,7 +274,11 @@ impl Drop for Selector {
     fn drop(self) {
         match self {
             Selector::Member(_, _) => {}
-            Selector::Index(_, _, _) => {}
+            Selector::Index {
+                opening: _,
+                value: _,
+                closing: _,
+            } => {}
             Selector::Call(_) => {}
         }
     }
@@ -189,7 +295,8 @@ pub struct Cascade {
     pub value: Value,
 }
 
-/// An expression that may be left out, with the sign before it where it has one: `= a`, `: a`, `+= a` or `a`.
+/// An expression that may be left out, with the sign before it where it has one: `= a`, `: a`, `+= a` or `a`
+/// (ECMA-408, 8 Variables, 9.2.2 Optional Formals and 16.19 Assignment).
 #[cycle(tree)]
 pub enum Value {
     /// Nothing.
@@ -217,7 +324,8 @@ pub struct Arguments {
     pub closing: Place,
 }
 
-/// An argument, an element of a list literal or an update of a `for`.
+/// An argument, an element of a list literal or an update of a `for` (ECMA-408, 16.14.1, 16.7 Lists and 17.6.1 For
+/// Loop).
 #[cycle(tree)]
 #[derive(Drop)]
 pub struct Item {
@@ -226,7 +334,7 @@ pub struct Item {
     pub value: Expr,
 }
 
-/// `a: b` in a map literal.
+/// `a: b` in a map literal (ECMA-408, 16.8 Maps).
 #[cycle(tree)]
 #[derive(Drop)]
 pub struct Entry {

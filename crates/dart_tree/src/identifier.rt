@@ -15,21 +15,21 @@ pub enum Identifier {
     Set(Place),
 }
 
-/// `.a`
+/// `.a`, the part of a qualified name behind the dot (ECMA-408, 16.33 Identifier Reference).
 #[derive(Drop)]
 pub struct DotName {
     pub dot: Place,
     pub name: Identifier,
 }
 
-/// `, a`
+/// `, a`, a further name of a combinator, an enum or a `catch` (ECMA-408, 13 Enums, 17.11 Try and 18.1 Imports).
 #[derive(Drop)]
 pub struct CommaName {
     pub comma: Place,
     pub name: Identifier,
 }
 
-/// `a:`, as before a statement (ECMA-408, 17.13 Labels) or a named argument.
+/// `a:`, as before a statement (ECMA-408, 17.13 Labels) or a named argument (16.14.1 Actual Argument List Evaluation).
 #[derive(Drop)]
 pub struct Label {
     pub name: Identifier,

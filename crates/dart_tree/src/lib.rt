@@ -1,11 +1,9 @@
-// The trees of units, with what their tokens, their depth and their erasure are.
+// The trees of units, with what their tokens and their heights are.
 #![tactic(auto)]
 
 pub mod declaration;
 pub mod expression;
-pub mod fact;
 pub mod identifier;
-pub mod law;
 pub mod operator;
 pub mod parameter;
 pub mod statement;

@@ -24,7 +24,7 @@ pub enum BracketKind {
     Curly,
 }
 
-/// The brackets round the optional parameters, with the comma before them.
+/// The brackets round the optional parameters, with the comma before them (ECMA-408, 9.2.2 Optional Formals).
 #[derive(Clone, Copy, Debug, PartialEq, Eq)]
 pub struct Brackets {
     pub comma: Option<Place>,
@@ -33,7 +33,7 @@ pub struct Brackets {
     pub closing: Place,
 }
 
-/// A parameter, with the default value that an optional one may have.
+/// A parameter, with the default value that an optional one may have (ECMA-408, 9.2 Formal Parameters).
 #[cycle(tree)]
 #[derive(Drop)]
 pub struct Parameter {
@@ -46,18 +46,36 @@ pub struct Parameter {
 /// How a parameter is declared (ECMA-408, 9.2.1 Required Formals).
 #[cycle(tree)]
 pub enum ParameterKind {
-    /// `a`, `var a`, `final int a`, `int a` or `int this.a`
-    Plain(VariableKind, Option<ThisDot>, Identifier),
-    /// `int a(b)`, a function
-    Function(Option<ResultType>, Option<ThisDot>, Identifier, Parameters),
+    /// `a`, `var a`, `final int a`, `int a` or `int this.a` (9.2.1 Required Formals and 10.6.1 Generative Constructors)
+    Plain {
+        kind: VariableKind,
+        this_dot: Option<ThisDot>,
+        name: Identifier,
+    },
+    /// `int a(b)`, a function (9.2.1 Required Formals)
+    Function {
+        result_type: Option<ResultType>,
+        this_dot: Option<ThisDot>,
+        name: Identifier,
+        parameters: Parameters,
+    },
 }
 
 impl Drop for ParameterKind {
     #[cycle(drops)]
     fn drop(self) {
         match self {
-            ParameterKind::Plain(_, _, _) => {}
-            ParameterKind::Function(_, _, _, _) => {}
+            ParameterKind::Plain {
+                kind: _,
+                this_dot: _,
+                name: _,
+            } => {}
+            ParameterKind::Function {
+                result_type: _,
+                this_dot: _,
+                name: _,
+                parameters: _,
+            } => {}
         }
     }
 }
@@ -71,6 +89,8 @@ pub enum VariableKind {
     Var(Place),
     /// `final` or `final A`
     Final(Place, Option<TypeNode>),
+    /// `const` or `const A`, as before no parameter and no variable of a `for .. in`
+    Const(Place, Option<TypeNode>),
     /// `A`
     Typed(TypeNode),
 }
@@ -82,7 +102,7 @@ pub struct ThisDot {
     pub dot: Place,
 }
 
-/// `(` and `)`
+/// `(` and `)` round the arguments of an annotation (ECMA-408, 15 Metadata).
 #[derive(Clone, Copy, Debug, PartialEq, Eq)]
 pub struct Parentheses {
     pub opening: Place,

@@ -19,25 +19,55 @@ pub struct Block {
 pub enum Stmt {
     /// `a: b;` (17.13 Labels)
     Labelled(Label, Box<Stmt>),
-    /// `{ a; }`
+    /// `{ a; }` (17.1 Blocks)
     Block(Block),
     /// `var a = b;` (17.3 Local Variable Declaration)
     Variables(Variables),
     /// `a(b) { c; }` (17.4 Local Function Declaration)
     Function(Function),
     /// `if (a) b;` (17.5 If)
-    If(Place, Place, Expr, Place, Box<Stmt>),
+    If {
+        word: Place,
+        opening: Place,
+        condition: Expr,
+        closing: Place,
+        first: Box<Stmt>,
+    },
     /// `if (a) b; else c;` (17.5 If)
-    IfElse(Place, Place, Expr, Place, Box<Stmt>, Place, Box<Stmt>),
-    /// `for (a; b; c) d;`, `while (a) b;` and the like
+    IfElse {
+        word: Place,
+        opening: Place,
+        condition: Expr,
+        closing: Place,
+        first: Box<Stmt>,
+        else_word: Place,
+        second: Box<Stmt>,
+    },
+    /// `for (a; b; c) d;`, `while (a) b;` and the like (17.6 For, 17.7 While and 17.8 Do)
     Loop(Loop),
     /// `switch (a) { case b: c; default: d; }` (17.9 Switch)
-    Switch(Place, Place, Expr, Place, Place, Vec<SwitchPart>, Place),
+    Switch {
+        word: Place,
+        opening: Place,
+        value: Expr,
+        closing: Place,
+        opening_brace: Place,
+        parts: Vec<SwitchPart>,
+        closing_brace: Place,
+    },
     /// `try { a; } on A catch (b) { c; } finally { d; }` (17.11 Try)
-    Try(Place, Block, Vec<TryPart>),
+    Try {
+        word: Place,
+        block: Block,
+        parts: Vec<TryPart>,
+    },
     /// `return;` or `return a;` (17.12 Return)
-    Return(Place, Value, Place),
-    /// `break a;`, `continue a;` or `rethrow;`
+    Return {
+        word: Place,
+        value: Value,
+        semicolon: Place,
+    },
+    /// `break a;`, `continue a;` or `rethrow;` (17.14 Break, 17.15 Continue and 17.10 Rethrow)
     Jump(Jump),
     /// `a;` or `;` (17.2 Expression Statements)
     Expression(Value, Place),
@@ -51,53 +81,175 @@ impl Drop for Stmt {
             Stmt::Block(_) => {}
             Stmt::Variables(_) => {}
             Stmt::Function(_) => {}
-            Stmt::If(_, _, _, _, _) => {}
-            Stmt::IfElse(_, _, _, _, _, _, _) => {}
+            Stmt::If {
+                word: _,
+                opening: _,
+                condition: _,
+                closing: _,
+                first: _,
+            } => {}
+            Stmt::IfElse {
+                word: _,
+                opening: _,
+                condition: _,
+                closing: _,
+                first: _,
+                else_word: _,
+                second: _,
+            } => {}
             Stmt::Loop(_) => {}
-            Stmt::Switch(_, _, _, _, _, _, _) => {}
-            Stmt::Try(_, _, _) => {}
-            Stmt::Return(_, _, _) => {}
+            Stmt::Switch {
+                word: _,
+                opening: _,
+                value: _,
+                closing: _,
+                opening_brace: _,
+                parts: _,
+                closing_brace: _,
+            } => {}
+            Stmt::Try {
+                word: _,
+                block: _,
+                parts: _,
+            } => {}
+            Stmt::Return {
+                word: _,
+                value: _,
+                semicolon: _,
+            } => {}
             Stmt::Jump(_) => {}
             Stmt::Expression(_, _) => {}
         }
     }
 }
 
-/// A loop.
+/// A loop (ECMA-408, 17.6 For, 17.7 While and 17.8 Do).
 #[cycle(tree)]
 pub enum Loop {
     /// `for (a; b; c) d;` (17.6.1 For Loop)
-    For(Place, Place, Value, Place, Value, Place, Vec<Item>, Place, Box<Stmt>),
+    For {
+        word: Place,
+        opening: Place,
+        start: Value,
+        first_semicolon: Place,
+        condition: Value,
+        second_semicolon: Place,
+        updates: Vec<Item>,
+        closing: Place,
+        body: Box<Stmt>,
+    },
     /// `for (var a = b; c; d) e;` (17.6.1 For Loop)
-    ForVariables(Place, Place, Variables, Value, Place, Vec<Item>, Place, Box<Stmt>),
+    ForVariables {
+        word: Place,
+        opening: Place,
+        variables: Variables,
+        condition: Value,
+        semicolon: Place,
+        updates: Vec<Item>,
+        closing: Place,
+        body: Box<Stmt>,
+    },
     /// `for (a in b) c;` or `for (int a in b) c;` (17.6.2 For-in)
-    ForIn(Place, Place, VariableKind, Identifier, Place, Expr, Place, Box<Stmt>),
+    ForIn {
+        word: Place,
+        opening: Place,
+        kind: VariableKind,
+        name: Identifier,
+        in_word: Place,
+        iterated: Expr,
+        closing: Place,
+        body: Box<Stmt>,
+    },
     /// `while (a) b;` (17.7 While)
-    While(Place, Place, Expr, Place, Box<Stmt>),
+    While {
+        word: Place,
+        opening: Place,
+        condition: Expr,
+        closing: Place,
+        body: Box<Stmt>,
+    },
     /// `do a; while (b);` (17.8 Do)
-    Do(Place, Box<Stmt>, Place, Place, Expr, Place, Place),
+    Do {
+        word: Place,
+        body: Box<Stmt>,
+        while_word: Place,
+        opening: Place,
+        condition: Expr,
+        closing: Place,
+        semicolon: Place,
+    },
 }
 
 impl Drop for Loop {
     #[cycle(drops)]
     fn drop(self) {
         match self {
-            Loop::For(_, _, _, _, _, _, _, _, _) => {}
-            Loop::ForVariables(_, _, _, _, _, _, _, _) => {}
-            Loop::ForIn(_, _, _, _, _, _, _, _) => {}
-            Loop::While(_, _, _, _, _) => {}
-            Loop::Do(_, _, _, _, _, _, _) => {}
+            Loop::For {
+                word: _,
+                opening: _,
+                start: _,
+                first_semicolon: _,
+                condition: _,
+                second_semicolon: _,
+                updates: _,
+                closing: _,
+                body: _,
+            } => {}
+            Loop::ForVariables {
+                word: _,
+                opening: _,
+                variables: _,
+                condition: _,
+                semicolon: _,
+                updates: _,
+                closing: _,
+                body: _,
+            } => {}
+            Loop::ForIn {
+                word: _,
+                opening: _,
+                kind: _,
+                name: _,
+                in_word: _,
+                iterated: _,
+                closing: _,
+                body: _,
+            } => {}
+            Loop::While {
+                word: _,
+                opening: _,
+                condition: _,
+                closing: _,
+                body: _,
+            } => {}
+            Loop::Do {
+                word: _,
+                body: _,
+                while_word: _,
+                opening: _,
+                condition: _,
+                closing: _,
+                semicolon: _,
+            } => {}
         }
     }
 }
 
-/// A statement of a word and perhaps a label.
+/// A statement of a word and perhaps a label (ECMA-408, 17.14 Break, 17.15 Continue and 17.10 Rethrow).
 #[derive(Drop)]
 pub enum Jump {
     /// `break a;` (17.14 Break)
-    Break(Place, Option<Identifier>, Place),
+    Break {
+        word: Place,
+        label: Option<Identifier>,
+        semicolon: Place,
+    },
     /// `continue a;` (17.15 Continue)
-    Continue(Place, Option<Identifier>, Place),
+    Continue {
+        word: Place,
+        label: Option<Identifier>,
+        semicolon: Place,
+    },
     /// `rethrow;` (17.10 Rethrow)
     Rethrow(Place, Place),
 }
@@ -113,7 +265,7 @@ pub struct Variables {
     pub semicolon: Place,
 }
 
-/// `, a = b`, a further variable.
+/// `, a = b`, a further variable (ECMA-408, 8 Variables).
 #[cycle(tree)]
 #[derive(Drop)]
 pub struct Variable {
@@ -122,7 +274,7 @@ pub struct Variable {
     pub value: Value,
 }
 
-/// `a: case b: c;`, or `default: c;` where there is no value.
+/// `a: case b: c;`, or `default: c;` where there is no value (ECMA-408, 17.9 Switch).
 #[cycle(tree)]
 #[derive(Drop)]
 pub struct SwitchPart {
@@ -133,7 +285,7 @@ pub struct SwitchPart {
     pub statements: Vec<Stmt>,
 }
 
-/// A part of a `try` behind its block.
+/// A part of a `try` behind its block (ECMA-408, 17.11 Try).
 #[cycle(tree)]
 #[derive(Drop)]
 pub struct TryPart {
@@ -145,14 +297,18 @@ pub struct TryPart {
 #[derive(Drop)]
 pub enum TryKind {
     /// `on A` or `on A catch (b)`
-    On(Place, TypeNode, Option<Catch>),
+    On {
+        word: Place,
+        type_node: TypeNode,
+        catch: Option<Catch>,
+    },
     /// `catch (a)`
     Catch(Catch),
     /// `finally`
     Finally(Place),
 }
 
-/// `catch (a, b)`
+/// `catch (a, b)` (ECMA-408, 17.11 Try).
 #[derive(Drop)]
 pub struct Catch {
     pub word: Place,
@@ -176,11 +332,15 @@ pub struct Function {
 /// The body of a function (ECMA-408, 9 Functions).
 #[cycle(tree)]
 pub enum Body {
-    /// `=> a;`, or `=> a` in a function literal
-    Arrow(Place, Box<Expr>, Option<Place>),
-    /// `{ a; }`
+    /// `=> a;`, or `=> a` in a function literal (9 Functions and 16.10 Function Expressions)
+    Arrow {
+        arrow: Place,
+        value: Box<Expr>,
+        semicolon: Option<Place>,
+    },
+    /// `{ a; }` (9 Functions)
     Block(Block),
-    /// `;`
+    /// `;`, as behind `external` or in an abstract method (9 Functions and 10.4 Abstract Instance Members)
     Omitted(Place),
 }
 
@@ -188,7 +348,11 @@ impl Drop for Body {
     #[cycle(drops)]
     fn drop(self) {
         match self {
-            Body::Arrow(_, _, _) => {}
+            Body::Arrow {
+                arrow: _,
+                value: _,
+                semicolon: _,
+            } => {}
             Body::Block(_) => {}
             Body::Omitted(_) => {}
         }

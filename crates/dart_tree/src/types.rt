@@ -5,10 +5,14 @@ use dart_base::place::Place;
 /// A type (ECMA-408, 19.1 Static Types).
 #[cycle(types)]
 pub enum TypeNode {
-    /// `dynamic`
+    /// `dynamic` (19.6 Type dynamic)
     Dynamic(Place),
-    /// `A`, `p.A` or `A<B, C>`
-    Named(Identifier, Option<DotName>, TypeArguments),
+    /// `A`, `p.A` or `A<B, C>` (19.1 Static Types and 19.8 Parameterized Types)
+    Named {
+        name: Identifier,
+        member: Option<DotName>,
+        arguments: TypeArguments,
+    },
 }
 
 impl Drop for TypeNode {
@@ -16,7 +20,11 @@ impl Drop for TypeNode {
     fn drop(self) {
         match self {
             TypeNode::Dynamic(_) => {}
-            TypeNode::Named(_, _, _) => {}
+            TypeNode::Named {
+                name: _,
+                member: _,
+                arguments: _,
+            } => {}
         }
     }
 }
@@ -28,10 +36,14 @@ pub enum TypeArguments {
     /// None are written.
     Omitted,
     /// `<A, B>`
-    Listed(Place, Vec<TypeArgument>, Place),
+    Listed {
+        opening: Place,
+        arguments: Vec<TypeArgument>,
+        closing: Place,
+    },
 }
 
-/// A type of a list of types, with the comma before it, which the first lacks.
+/// A type of a list of types, with the comma before it, which the first lacks (ECMA-408, 19.1 Static Types).
 #[cycle(types)]
 #[derive(Drop)]
 pub struct TypeArgument {
@@ -42,7 +54,7 @@ pub struct TypeArgument {
 /// What a function answers with (ECMA-408, 9 Functions).
 #[derive(Drop)]
 pub enum ResultType {
-    /// `void`
+    /// `void` (19.7 Type Void)
     Void(Place),
     /// `A`
     Typed(TypeNode),

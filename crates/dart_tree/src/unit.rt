@@ -12,7 +12,7 @@ pub struct Unit {
     pub declarations: Vec<Decl>,
 }
 
-/// A directive, with its metadata.
+/// A directive, with its metadata (ECMA-408, 18 Libraries and Scripts).
 #[derive(Drop)]
 pub struct Directive {
     pub metadata: Vec<Annotation>,
@@ -20,29 +20,47 @@ pub struct Directive {
     pub semicolon: Place,
 }
 
-/// What a directive says.
+/// What a directive says (ECMA-408, 18 Libraries and Scripts).
 #[derive(Drop)]
 pub enum DirectiveKind {
     /// `part of a.b;` (18.3 Parts)
-    PartOf(Place, Place, Identifier, Vec<DotName>),
-    /// `library a.b;`
-    Library(Place, Identifier, Vec<DotName>),
+    PartOf {
+        word: Place,
+        of_word: Place,
+        name: Identifier,
+        more: Vec<DotName>,
+    },
+    /// `library a.b;` (18 Libraries and Scripts)
+    Library {
+        word: Place,
+        name: Identifier,
+        more: Vec<DotName>,
+    },
     /// `import 'a' as b show c;` (18.1 Imports)
-    Import(Place, Vec<StringPiece>, Option<Prefix>, Vec<Combinator>),
+    Import {
+        word: Place,
+        uri: Vec<StringPiece>,
+        prefix: Option<Prefix>,
+        combinators: Vec<Combinator>,
+    },
     /// `export 'a' hide b;` (18.2 Exports)
-    Export(Place, Vec<StringPiece>, Vec<Combinator>),
+    Export {
+        word: Place,
+        uri: Vec<StringPiece>,
+        combinators: Vec<Combinator>,
+    },
     /// `part 'a';` (18.3 Parts)
     Part(Place, Vec<StringPiece>),
 }
 
-/// `as a`
+/// `as a`, the prefix of an import (ECMA-408, 18.1 Imports).
 #[derive(Drop)]
 pub struct Prefix {
     pub word: Place,
     pub name: Identifier,
 }
 
-/// Whether a combinator keeps its names or drops them.
+/// Whether a combinator keeps its names or drops them (ECMA-408, 18.1 Imports and 18.2 Exports).
 #[derive(Clone, Copy, Debug, PartialEq, Eq)]
 pub enum CombinatorKind {
     /// `show`
@@ -51,7 +69,7 @@ pub enum CombinatorKind {
     Hide,
 }
 
-/// `show a, b` or `hide a, b`
+/// `show a, b` or `hide a, b` (ECMA-408, 18.1 Imports and 18.2 Exports).
 #[derive(Drop)]
 pub struct Combinator {
     pub kind: CombinatorKind,

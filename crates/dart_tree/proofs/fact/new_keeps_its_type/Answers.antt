@@ -1,5 +1,0 @@
-use Rattle.dart_tree.proofs.Facts.{new_kept}
-use Rattle.dart_tree.proofs.fact.new_keeps_its_type.Goals as goal
-
-pub returns : goal.returns
-returns c = new_kept

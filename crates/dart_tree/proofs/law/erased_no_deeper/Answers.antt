@@ -1,5 +1,0 @@
-use Rattle.dart_tree.proofs.Shallower.{shallow_unit}
-use Rattle.dart_tree.proofs.law.erased_no_deeper.Goals as goal
-
-pub returns : goal.returns
-returns c = shallow_unit

@@ -1,5 +1,0 @@
-use Rattle.dart_tree.proofs.Twice.{twice_unit}
-use Rattle.dart_tree.proofs.law.erased_once.Goals as goal
-
-pub returns : goal.returns
-returns c = twice_unit
