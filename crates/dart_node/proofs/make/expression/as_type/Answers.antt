@@ -1,0 +1,6 @@
+use Rattle.std.proofs.Common.{◌∙◌, refl}
+use Rattle.dart_tree.proofs.Rows.{view_as_type}
+use Rattle.dart_node.proofs.make.expression.as_type.Goals as goal
+
+pub returns : goal.returns
+returns c = view_as_type c.in_ok-operand.operand c.args.word c.args.type_node ∙ rw (c.in_ok-operand.ensures.ok) refl

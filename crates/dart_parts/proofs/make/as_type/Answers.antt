@@ -1,6 +1,0 @@
-use Rattle.std.proofs.Common.{◌∙◌, refl}
-use Rattle.dart_tree.proofs.Rows.{view_as_type}
-use Rattle.dart_parts.proofs.make.as_type.Goals as goal
-
-pub returns : goal.returns
-returns c = view_as_type c.in_ok-operand.operand c.args.word c.args.of ∙ rw (c.in_ok-operand.ensures.ok) refl

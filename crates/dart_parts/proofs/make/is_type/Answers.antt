@@ -1,6 +1,0 @@
-use Rattle.std.proofs.Common.{◌∙◌, refl}
-use Rattle.dart_tree.proofs.Rows.{view_is_type}
-use Rattle.dart_parts.proofs.make.is_type.Goals as goal
-
-pub returns : goal.returns
-returns c = view_is_type c.in_ok-operand.operand c.args.word c.args.bang c.args.of ∙ rw (c.in_ok-operand.ensures.ok) refl

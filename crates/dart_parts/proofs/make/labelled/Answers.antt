@@ -1,6 +1,0 @@
-use Rattle.std.proofs.Common.{◌∙◌, refl}
-use Rattle.dart_tree.proofs.Rows.{view_labelled}
-use Rattle.dart_parts.proofs.make.labelled.Goals as goal
-
-pub returns : goal.returns
-returns c = view_labelled c.args.label c.in_ok-statement.statement ∙ rw (c.in_ok-statement.ensures.ok) refl

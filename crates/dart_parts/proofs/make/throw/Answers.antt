@@ -1,6 +1,0 @@
-use Rattle.std.proofs.Common.{◌∙◌, refl}
-use Rattle.dart_tree.proofs.Rows.{view_throw}
-use Rattle.dart_parts.proofs.make.throw.Goals as goal
-
-pub returns : goal.returns
-returns c = view_throw c.args.word c.in_ok-value.value ∙ rw (c.in_ok-value.ensures.ok) refl
