@@ -1,8 +1,0 @@
-use Rattle.std.proofs.Common.{◌≡◌, ◌++◌, drop, map, flat_map}
-use Rattle.dart_tree.specs.UnitTokens.{decl_tokens}
-use Rattle.dart_tree.specs.UnitView as uv
-use Rattle.dart_print.proofs.leaf.Writer.decls.Given as goal
-
--- what was written and what is left to write are all
-abbrev pub invariant-loop-one : goal.invariant-loop-one
-invariant-loop-one l = l.self.tokens.items ++ flat_map decl_tokens (map uv.decl (drop l.one-index l.all.items)) ≡ l.fn.self.tokens.items ++ flat_map decl_tokens (map uv.decl l.all.items)
