@@ -18,12 +18,12 @@ use Rattle.dart_tree.specs.declared.statement.Loop.{Loop}
 use Rattle.dart_tree.specs.declared.statement.Loop.TheVariants as l
 use Rattle.dart_tree.specs.declared.statement.Body.{Body}
 use Rattle.dart_tree.specs.declared.statement.Body.TheVariants as b
-use Rattle.dart_tree.specs.declared.expression.Arguments.{Arguments, out-Arguments, roll-Arguments, out-roll-Arguments}
-use Rattle.dart_tree.specs.declared.parameter.Parameters.{Parameters, out-Parameters, roll-Parameters, out-roll-Parameters}
-use Rattle.dart_tree.specs.declared.parameter.Parameter.{Parameter, out-Parameter, roll-Parameter, out-roll-Parameter}
-use Rattle.dart_tree.specs.declared.parameter.Annotation.{Annotation, out-Annotation, roll-Annotation, out-roll-Annotation}
-use Rattle.dart_tree.specs.declared.statement.Variables.{Variables, out-Variables, roll-Variables, out-roll-Variables}
-use Rattle.dart_tree.specs.declared.statement.Function.{Function, out-Function, roll-Function, out-roll-Function}
+use Rattle.dart_tree.specs.declared.expression.Arguments.{Arguments, out-Arguments}
+use Rattle.dart_tree.specs.declared.parameter.Parameters.{Parameters, out-Parameters}
+use Rattle.dart_tree.specs.declared.parameter.Parameter.{Parameter, out-Parameter}
+use Rattle.dart_tree.specs.declared.parameter.Annotation.{Annotation, out-Annotation}
+use Rattle.dart_tree.specs.declared.statement.Variables.{Variables, out-Variables}
+use Rattle.dart_tree.specs.declared.statement.Function.{Function, out-Function}
 use Rattle.dart_tree.specs.declared.statement.Block.{Block}
 use Rattle.dart_tree.specs.declared.expression.Tail.{Tail}
 use Rattle.dart_tree.specs.declared.expression.StringPiece.{StringPiece}
@@ -38,6 +38,7 @@ use Rattle.dart_tree.specs.declared.identifier.Identifier.{Identifier}
 use Rattle.dart_tree.specs.declared.identifier.DotName.{DotName}
 use Rattle.dart_tree.specs.declared.identifier.Label.{Label}
 use Rattle.dart_tree.specs.declared.expression.Atom.{Atom}
+use Rattle.dart_tree.specs.declared.expression.Creation.{Creation}
 use Rattle.dart_tree.specs.declared.parameter.ThisDot.{ThisDot}
 use Rattle.dart_tree.specs.declared.statement.Jump.{Jump}
 use Rattle.dart_tree.specs.declared.types.TypeNode.{TypeNode}
@@ -47,28 +48,9 @@ use Rattle.dart_tree.specs.declared.parameter.VariableKind.{VariableKind}
 use Rattle.dart_tree.specs.Types as y
 use Rattle.dart_tree.specs.Tree as t
 use Rattle.dart_tree.specs.View as view
-use Rattle.dart_tree.specs.Erased as erased
+use Rattle.dart_erase.specs.Erased as erased
 use Rattle.dart_tree.specs.Lists.{block_of, tails_of, pieces_of, selectors_of, cascades_of, items_of, entries_of, parameter_list_of, metadata_of, stmts_of, more_variables_of, switch_parts_of, try_parts_of}
 use Rattle.dart_tree.proofs.Rows.{view_assign, view_plain, view_throw, view_conditional, view_binary, view_is_type, view_as_type, view_prefix, view_postfix, view_primary, view_super_access, view_bare_super, view_atom, view_text, view_list_literal, view_map_literal, view_new_object, view_function_literal, view_parenthesized, view_member, view_index, view_call, view_omitted, view_given, view_plain_parameter, view_function_parameter, view_labelled, view_block_stmt, view_variables_stmt, view_function_stmt, view_if_stmt, view_if_else, view_loop, view_switch_stmt, view_try_stmt, view_return_stmt, view_jump, view_expression_stmt, view_for_loop, view_for_variables, view_for_in, view_while_loop, view_do_loop, view_arrow_body, view_block_body, view_no_body, view_the_arguments, view_the_parameters, view_the_parameter, view_the_annotation, view_the_variables, view_the_function}
-
--- what a struct of the code is
-pub made_the_arguments : (x : _) → view.arguments (roll-Arguments x) ≡ t.the_arguments x.opening (items_of x.items.items) x.closing
-made_the_arguments x = view_the_arguments (roll-Arguments x) ∙ ap (λ y. t.the_arguments y.opening (items_of y.items.items) y.closing) (out-roll-Arguments x)
-
-pub made_the_parameters : (x : _) → view.parameters (roll-Parameters x) ≡ t.the_parameters x.opening (parameter_list_of x.required.items) x.brackets (parameter_list_of x.optional.items) x.closing
-made_the_parameters x = view_the_parameters (roll-Parameters x) ∙ ap (λ y. t.the_parameters y.opening (parameter_list_of y.required.items) y.brackets (parameter_list_of y.optional.items) y.closing) (out-roll-Parameters x)
-
-pub made_the_parameter : (x : _) → view.parameter (roll-Parameter x) ≡ t.the_parameter x.comma (metadata_of x.metadata.items) (view.parameter_kind x.kind) (view.value x.value)
-made_the_parameter x = view_the_parameter (roll-Parameter x) ∙ ap (λ y. t.the_parameter y.comma (metadata_of y.metadata.items) (view.parameter_kind y.kind) (view.value y.value)) (out-roll-Parameter x)
-
-pub made_the_annotation : (x : _) → view.annotation (roll-Annotation x) ≡ t.the_annotation x.at x.name x.more.items x.call (items_of x.items.items)
-made_the_annotation x = view_the_annotation (roll-Annotation x) ∙ ap (λ y. t.the_annotation y.at y.name y.more.items y.call (items_of y.items.items)) (out-roll-Annotation x)
-
-pub made_the_variables : (x : _) → view.variables (roll-Variables x) ≡ t.the_variables (view.variable_kind x.kind) x.name (view.value x.value) (more_variables_of x.more.items) x.semicolon
-made_the_variables x = view_the_variables (roll-Variables x) ∙ ap (λ y. t.the_variables (view.variable_kind y.kind) y.name (view.value y.value) (more_variables_of y.more.items) y.semicolon) (out-roll-Variables x)
-
-pub made_the_function : (x : _) → view.function (roll-Function x) ≡ t.the_function x.external (view.result_option x.result_type) x.name (view.parameters x.parameters) (view.body x.body)
-made_the_function x = view_the_function (roll-Function x) ∙ ap (λ y. t.the_function y.external (view.result_option y.result_type) y.name (view.parameters y.parameters) (view.body y.body)) (out-roll-Function x)
 
 pub erasing_assign : (target : Operand) (operator : Operator) (given : Box Expr Global) → erased.expr (view.expr (e.Assign target operator given)) ≡ t.assign (erased.operand (view.operand target)) operator (erased.expr (view.expr given.value))
 unfolding erased.expr
@@ -134,9 +116,9 @@ pub erasing_map_literal : (kinds : TypeArguments) (opening : Place) (all : Vec E
 unfolding erased.primary
 erasing_map_literal kinds opening all comma closing = ap erased.primary (view_map_literal kinds opening all comma closing)
 
-pub erasing_new_object : (word : Place) (kind : TypeNode) (constructor : Option DotName) (args : Arguments) → erased.primary (view.primary (p.New word kind constructor args)) ≡ t.new_object word (view.type_node kind) constructor (erased.arguments (view.arguments args))
+pub erasing_new_object : (creation : Creation) (class : TypeNode) (constructor : Option DotName) (args : Arguments) → erased.primary (view.primary (p.New creation class constructor args)) ≡ t.new_object creation (view.type_node class) constructor (erased.arguments (view.arguments args))
 unfolding erased.primary
-erasing_new_object word kind constructor args = ap erased.primary (view_new_object word kind constructor args)
+erasing_new_object creation class constructor args = ap erased.primary (view_new_object creation class constructor args)
 
 pub erasing_function_literal : (params : Parameters) (inner : Body) → erased.primary (view.primary (p.Function params inner)) ≡ t.function_literal (erased.parameters (view.parameters params)) (erased.body (view.body inner))
 unfolding erased.primary

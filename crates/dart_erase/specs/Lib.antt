@@ -1,0 +1,4 @@
+pub mod Erased
+pub mod UnitErased
+pub mod Thinned
+pub mod Levels

@@ -1,15 +1,15 @@
-// Expressions without annotations. Each function reads a tree, and fails only for want of memory.
+// Expressions without annotations. Each function reads a tree, and fails only where memory runs out.
 ghost use Rattle.std.specs.Prelude.{◌≡◌, IfOk, Option, None, Some};
-ghost use Rattle.dart_tree.specs.Erased as erased;
+ghost use Rattle.dart_erase.specs.Erased as erased;
 ghost use Rattle.dart_tree.specs.Lists.{tails_of, pieces_of, selectors_of, cascades_of, items_of, entries_of};
 ghost use Rattle.dart_tree.specs.View as view;
 
 use crate::statement::{erase_body, erase_parameters};
-use dart_parts::leaf::{
-    copy_atom, copy_bytes, copy_identifier, copy_maybe_dot_name, copy_maybe_label, copy_type,
-    copy_type_arguments,
+use dart_node::leaf::{
+    try_clone_atom, try_clone_bytes, try_clone_identifier, try_clone_maybe_dot_name,
+    try_clone_maybe_label, try_clone_type, try_clone_type_arguments,
 };
-use dart_parts::make;
+use dart_node::make::expression as make;
 use dart_tree::expression::{
     Arguments, Cascade, Entry, Expr, Item, Operand, Primary, Selector, StringPiece, Tail, Value,
 };
@@ -21,7 +21,11 @@ pub fn erase_expr(alloc: Global, tree: &Expr) -> Result<Expr, AllocError>
     ensures { IfOk result (λ x. view.expr x ≡ erased.expr (view.expr tree.now)) }
 {
     match tree {
-        Expr::Assign(target, operator, value) => {
+        Expr::Assign {
+            target,
+            operator,
+            value,
+        } => {
             let target = erase_operand(alloc, target)?;
             let value = erase_expr(alloc, value)?;
             make::assign(alloc, target, *operator, value)
@@ -29,7 +33,7 @@ pub fn erase_expr(alloc: Global, tree: &Expr) -> Result<Expr, AllocError>
         Expr::Plain(operand, cascades) => {
             let operand = erase_operand(alloc, operand)?;
             let cascades = erase_cascades(alloc, cascades)?;
-            Ok(Expr::Plain(operand, cascades))
+            Ok(make::plain(operand, cascades))
         }
         Expr::Throw(word, value) => {
             let value = erase_expr(alloc, value)?;
@@ -44,7 +48,13 @@ pub fn erase_operand(alloc: Global, tree: &Operand) -> Result<Operand, AllocErro
     ensures { IfOk result (λ x. view.operand x ≡ erased.operand (view.operand tree.now)) }
 {
     match tree {
-        Operand::Conditional(condition, question, first, colon, second) => {
+        Operand::Conditional {
+            condition,
+            question,
+            first,
+            colon,
+            second,
+        } => {
             let condition = erase_operand(alloc, condition)?;
             let first = erase_expr(alloc, first)?;
             let second = erase_expr(alloc, second)?;
@@ -55,24 +65,37 @@ pub fn erase_operand(alloc: Global, tree: &Operand) -> Result<Operand, AllocErro
             let more = erase_tails(alloc, more)?;
             make::binary(alloc, first, more)
         }
-        Operand::Is(operand, word, bang, of) => {
+        Operand::Is {
+            operand,
+            word,
+            bang,
+            type_node,
+        } => {
             let operand = erase_operand(alloc, operand)?;
-            let of = copy_type(alloc, of)?;
-            make::is_type(alloc, operand, *word, *bang, of)
+            let type_node = try_clone_type(alloc, type_node)?;
+            make::is_type(alloc, operand, *word, *bang, type_node)
         }
-        Operand::As(operand, word, of) => {
+        Operand::As {
+            operand,
+            word,
+            type_node,
+        } => {
             let operand = erase_operand(alloc, operand)?;
-            let of = copy_type(alloc, of)?;
-            make::as_type(alloc, operand, *word, of)
+            let type_node = try_clone_type(alloc, type_node)?;
+            make::as_type(alloc, operand, *word, type_node)
         }
         Operand::Prefix(operator, operand) => {
             let operand = erase_operand(alloc, operand)?;
             make::prefix(alloc, *operator, operand)
         }
-        Operand::Postfix(operand, selectors, operator) => {
-            let operand = erase_primary(alloc, operand)?;
+        Operand::Postfix {
+            primary,
+            selectors,
+            operator,
+        } => {
+            let primary = erase_primary(alloc, primary)?;
             let selectors = erase_selectors(alloc, selectors)?;
-            Ok(Operand::Postfix(operand, selectors, *operator))
+            Ok(make::postfix(primary, selectors, *operator))
         }
         Operand::Primary(primary) => {
             let primary = erase_primary(alloc, primary)?;
@@ -81,7 +104,7 @@ pub fn erase_operand(alloc: Global, tree: &Operand) -> Result<Operand, AllocErro
     }
 }
 
-/// A primary, whose type arguments and whose `new` keep their types (ECMA-408, 16 Expressions).
+/// A primary, whose type arguments and whose `new` or `const` keep their types (ECMA-408, 16 Expressions).
 #[cycle(erase)]
 pub fn erase_primary(alloc: Global, tree: &Primary) -> Result<Primary, AllocError>
     ensures { IfOk result (λ x. view.primary x ≡ erased.primary (view.primary tree.now)) }
@@ -93,35 +116,56 @@ pub fn erase_primary(alloc: Global, tree: &Primary) -> Result<Primary, AllocErro
         }
         Primary::BareSuper(word) => Ok(Primary::BareSuper(*word)),
         Primary::Atom(atom) => {
-            let atom = copy_atom(alloc, atom)?;
+            let atom = try_clone_atom(alloc, atom)?;
             Ok(Primary::Atom(atom))
         }
         Primary::Text(pieces) => {
             let pieces = erase_pieces(alloc, pieces)?;
-            Ok(Primary::Text(pieces))
+            Ok(make::text(pieces))
         }
-        Primary::List(types, opening, items, comma, closing) => {
-            let types = copy_type_arguments(alloc, types)?;
+        Primary::List {
+            type_arguments,
+            opening,
+            items,
+            comma,
+            closing,
+        } => {
+            let types = try_clone_type_arguments(alloc, type_arguments)?;
             let items = erase_items(alloc, items)?;
-            Ok(Primary::List(types, *opening, items, *comma, *closing))
+            Ok(make::list_literal(types, *opening, items, *comma, *closing))
         }
-        Primary::Map(types, opening, entries, comma, closing) => {
-            let types = copy_type_arguments(alloc, types)?;
+        Primary::Map {
+            type_arguments,
+            opening,
+            entries,
+            comma,
+            closing,
+        } => {
+            let types = try_clone_type_arguments(alloc, type_arguments)?;
             let entries = erase_entries(alloc, entries)?;
-            Ok(Primary::Map(types, *opening, entries, *comma, *closing))
+            Ok(make::map_literal(types, *opening, entries, *comma, *closing))
         }
-        Primary::New(word, of, constructor, arguments) => {
-            let of = copy_type(alloc, of)?;
-            let constructor = copy_maybe_dot_name(alloc, constructor)?;
+        Primary::New {
+            creation,
+            class,
+            constructor,
+            arguments,
+        } => {
+            let class = try_clone_type(alloc, class)?;
+            let constructor = try_clone_maybe_dot_name(alloc, constructor)?;
             let arguments = erase_arguments(alloc, arguments)?;
-            Ok(Primary::New(*word, of, constructor, arguments))
+            Ok(make::new_object(*creation, class, constructor, arguments))
         }
         Primary::Function(parameters, body) => {
             let parameters = erase_parameters(alloc, parameters)?;
             let body = erase_body(alloc, body)?;
             Ok(Primary::Function(parameters, body))
         }
-        Primary::Parenthesized(opening, value, closing) => {
+        Primary::Parenthesized {
+            opening,
+            value,
+            closing,
+        } => {
             let value = erase_expr(alloc, value)?;
             make::parenthesized(alloc, *opening, value, *closing)
         }
@@ -135,10 +179,14 @@ pub fn erase_selector(alloc: Global, tree: &Selector) -> Result<Selector, AllocE
 {
     match tree {
         Selector::Member(dot, name) => {
-            let name = copy_identifier(alloc, name)?;
+            let name = try_clone_identifier(alloc, name)?;
             Ok(Selector::Member(*dot, name))
         }
-        Selector::Index(opening, value, closing) => {
+        Selector::Index {
+            opening,
+            value,
+            closing,
+        } => {
             let value = erase_expr(alloc, value)?;
             make::index(alloc, *opening, value, *closing)
         }
@@ -169,11 +217,7 @@ pub fn erase_arguments(alloc: Global, tree: &Arguments) -> Result<Arguments, All
     ensures { IfOk result (λ x. view.arguments x ≡ erased.arguments (view.arguments tree.now)) }
 {
     let items = erase_items(alloc, &tree.items)?;
-    Ok(Arguments {
-        opening: tree.opening,
-        items,
-        closing: tree.closing,
-    })
+    Ok(make::arguments(tree.opening, items, tree.closing))
 }
 
 /// Operands with the operators before them.
@@ -199,7 +243,7 @@ pub fn erase_pieces(alloc: Global, all: &Vec<StringPiece>) -> Result<Vec<StringP
 {
     let mut found = Vec::new(alloc);
     for piece in all {
-        let text = copy_bytes(alloc, &piece.text)?;
+        let text = try_clone_bytes(alloc, &piece.text)?;
         let value = erase_value(alloc, &piece.value)?;
         found.push(StringPiece {
             kind: piece.kind,
@@ -214,7 +258,8 @@ pub fn erase_pieces(alloc: Global, all: &Vec<StringPiece>) -> Result<Vec<StringP
 /// `.a[b](c)`
 #[cycle(erase)]
 pub fn erase_selectors(alloc: Global, all: &Vec<Selector>) -> Result<Vec<Selector>, AllocError>
-    ensures { IfOk result (λ x. selectors_of x.items ≡ erased.selectors (selectors_of all.now.items)) }
+    ensures { IfOk result (λ x. selectors_of x.items ≡
+        erased.selectors (selectors_of all.now.items)) }
 {
     let mut found = Vec::new(alloc);
     for selector in all {
@@ -249,7 +294,7 @@ pub fn erase_items(alloc: Global, all: &Vec<Item>) -> Result<Vec<Item>, AllocErr
 {
     let mut found = Vec::new(alloc);
     for item in all {
-        let label = copy_maybe_label(alloc, &item.label)?;
+        let label = try_clone_maybe_label(alloc, &item.label)?;
         let value = erase_expr(alloc, &item.value)?;
         found.push(Item {
             comma: item.comma,

@@ -3,6 +3,9 @@
 
 mod declaration;
 mod expression;
+pub mod fact;
+pub mod law;
 mod leaf;
+mod member;
 mod statement;
 pub mod unit;

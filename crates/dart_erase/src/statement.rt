@@ -1,15 +1,16 @@
-// Statements, functions and parameters without annotations. Each function reads a tree, and fails only for want of memory.
+// Statements, functions and parameters without annotations. Each function reads a tree, and fails only where memory runs out.
 ghost use Rattle.std.specs.Prelude.{◌≡◌, IfOk, Option, None, Some};
-ghost use Rattle.dart_tree.specs.Erased as erased;
+ghost use Rattle.dart_erase.specs.Erased as erased;
 ghost use Rattle.dart_tree.specs.Lists.{block_of, parameter_list_of, metadata_of, stmts_of, more_variables_of, switch_parts_of, try_parts_of};
 ghost use Rattle.dart_tree.specs.View as view;
 
 use crate::expression::{erase_expr, erase_items, erase_value};
 use crate::leaf::{erase_kind, erase_parameter_type};
-use dart_parts::leaf::{
-    copy_dot_names, copy_identifier, copy_jump, copy_label, copy_labels, copy_try_kind,
+use dart_node::leaf::{
+    try_clone_dot_names, try_clone_identifier, try_clone_jump, try_clone_label, try_clone_labels,
+    try_clone_try_kind,
 };
-use dart_parts::make;
+use dart_node::make::{expression, statement};
 use dart_tree::parameter::{Annotation, Parameter, ParameterKind, Parameters, VariableKind};
 use dart_tree::statement::{
     Block, Body, Function, Loop, Stmt, SwitchPart, TryPart, Variable, Variables,
@@ -23,13 +24,13 @@ pub fn erase_parameters(alloc: Global, tree: &Parameters) -> Result<Parameters, 
 {
     let required = erase_parameter_list(alloc, &tree.required)?;
     let optional = erase_parameter_list(alloc, &tree.optional)?;
-    Ok(Parameters {
-        opening: tree.opening,
+    Ok(expression::parameters(
+        tree.opening,
         required,
-        brackets: tree.brackets,
+        tree.brackets,
         optional,
-        closing: tree.closing,
-    })
+        tree.closing,
+    ))
 }
 
 /// A parameter, which keeps its metadata and its default value.
@@ -40,12 +41,7 @@ pub fn erase_parameter(alloc: Global, tree: &Parameter) -> Result<Parameter, All
     let metadata = erase_metadata(alloc, &tree.metadata)?;
     let kind = erase_parameter_kind(alloc, &tree.kind)?;
     let value = erase_value(alloc, &tree.value)?;
-    Ok(Parameter {
-        comma: tree.comma,
-        metadata,
-        kind,
-        value,
-    })
+    Ok(expression::parameter(tree.comma, metadata, kind, value))
 }
 
 /// A parameter without its type: one that is a function is left as a name (ECMA-408, 9.2.1 Required Formals).
@@ -53,17 +49,36 @@ pub fn erase_parameter_kind(
     alloc: Global,
     tree: &ParameterKind,
 ) -> Result<ParameterKind, AllocError>
-    ensures { IfOk result (λ x. view.parameter_kind x ≡ erased.parameter_kind (view.parameter_kind tree.now)) }
+    ensures { IfOk result (λ x. view.parameter_kind x ≡
+        erased.parameter_kind (view.parameter_kind tree.now)) }
 {
     match tree {
-        ParameterKind::Plain(kind, this_dot, name) => {
+        ParameterKind::Plain {
+            kind,
+            this_dot,
+            name,
+        } => {
             let kind = erase_parameter_type(kind);
-            let name = copy_identifier(alloc, name)?;
-            Ok(ParameterKind::Plain(kind, *this_dot, name))
+            let name = try_clone_identifier(alloc, name)?;
+            Ok(ParameterKind::Plain {
+                kind,
+                this_dot: *this_dot,
+                name,
+            })
         }
-        ParameterKind::Function(_, this_dot, name, _) => {
-            let name = copy_identifier(alloc, name)?;
-            Ok(ParameterKind::Plain(VariableKind::Omitted, *this_dot, name))
+        ParameterKind::Function {
+            result_type: _,
+            this_dot,
+            name,
+            parameters: _,
+        } => {
+            let kind = VariableKind::Omitted;
+            let name = try_clone_identifier(alloc, name)?;
+            Ok(ParameterKind::Plain {
+                kind,
+                this_dot: *this_dot,
+                name,
+            })
         }
     }
 }
@@ -73,16 +88,10 @@ pub fn erase_parameter_kind(
 pub fn erase_annotation(alloc: Global, tree: &Annotation) -> Result<Annotation, AllocError>
     ensures { IfOk result (λ x. view.annotation x ≡ erased.annotation (view.annotation tree.now)) }
 {
-    let name = copy_identifier(alloc, &tree.name)?;
-    let more = copy_dot_names(alloc, &tree.more)?;
+    let name = try_clone_identifier(alloc, &tree.name)?;
+    let more = try_clone_dot_names(alloc, &tree.more)?;
     let items = erase_items(alloc, &tree.items)?;
-    Ok(Annotation {
-        at: tree.at,
-        name,
-        more,
-        call: tree.call,
-        items,
-    })
+    Ok(expression::annotation(tree.at, name, more, tree.call, items))
 }
 
 /// The body of a function (ECMA-408, 9 Functions).
@@ -91,13 +100,17 @@ pub fn erase_body(alloc: Global, tree: &Body) -> Result<Body, AllocError>
     ensures { IfOk result (λ x. view.body x ≡ erased.body (view.body tree.now)) }
 {
     match tree {
-        Body::Arrow(arrow, value, semicolon) => {
+        Body::Arrow {
+            arrow,
+            value,
+            semicolon,
+        } => {
             let value = erase_expr(alloc, value)?;
-            make::arrow(alloc, *arrow, value, *semicolon)
+            statement::arrow(alloc, *arrow, value, *semicolon)
         }
         Body::Block(block) => {
             let block = erase_block(alloc, block)?;
-            Ok(Body::Block(block))
+            Ok(statement::block_body(block))
         }
         Body::Omitted(semicolon) => Ok(Body::Omitted(*semicolon)),
     }
@@ -123,13 +136,13 @@ pub fn erase_stmt(alloc: Global, tree: &Stmt) -> Result<Stmt, AllocError>
 {
     match tree {
         Stmt::Labelled(label, statement) => {
-            let label = copy_label(alloc, label)?;
+            let label = try_clone_label(alloc, label)?;
             let statement = erase_stmt(alloc, statement)?;
-            make::labelled(alloc, label, statement)
+            statement::labelled(alloc, label, statement)
         }
         Stmt::Block(block) => {
             let block = erase_block(alloc, block)?;
-            Ok(Stmt::Block(block))
+            Ok(statement::block_statement(block))
         }
         Stmt::Variables(variables) => {
             let variables = erase_variables(alloc, variables)?;
@@ -139,39 +152,77 @@ pub fn erase_stmt(alloc: Global, tree: &Stmt) -> Result<Stmt, AllocError>
             let function = erase_function(alloc, function)?;
             Ok(Stmt::Function(function))
         }
-        Stmt::If(word, opening, condition, closing, first) => {
+        Stmt::If {
+            word,
+            opening,
+            condition,
+            closing,
+            first,
+        } => {
             let condition = erase_expr(alloc, condition)?;
             let first = erase_stmt(alloc, first)?;
-            make::if_statement(alloc, *word, *opening, condition, *closing, first)
+            statement::if_statement(alloc, *word, *opening, condition, *closing, first)
         }
-        Stmt::IfElse(word, opening, condition, closing, first, other, second) => {
+        Stmt::IfElse {
+            word,
+            opening,
+            condition,
+            closing,
+            first,
+            else_word,
+            second,
+        } => {
             let condition = erase_expr(alloc, condition)?;
             let first = erase_stmt(alloc, first)?;
             let second = erase_stmt(alloc, second)?;
-            make::if_else(
-                alloc, *word, *opening, condition, *closing, first, *other, second,
+            statement::if_else(
+                alloc, *word, *opening, condition, *closing, first, *else_word, second,
             )
         }
         Stmt::Loop(again) => {
             let again = erase_loop(alloc, again)?;
             Ok(Stmt::Loop(again))
         }
-        Stmt::Switch(word, opening, value, closing, left, parts, right) => {
+        Stmt::Switch {
+            word,
+            opening,
+            value,
+            closing,
+            opening_brace,
+            parts,
+            closing_brace,
+        } => {
             let value = erase_expr(alloc, value)?;
             let parts = erase_switch_parts(alloc, parts)?;
-            Ok(Stmt::Switch(*word, *opening, value, *closing, *left, parts, *right))
+            Ok(statement::switch_statement(
+                *word,
+                *opening,
+                value,
+                *closing,
+                *opening_brace,
+                parts,
+                *closing_brace,
+            ))
         }
-        Stmt::Try(word, block, parts) => {
+        Stmt::Try { word, block, parts } => {
             let block = erase_block(alloc, block)?;
             let parts = erase_try_parts(alloc, parts)?;
-            Ok(Stmt::Try(*word, block, parts))
+            Ok(statement::try_statement(*word, block, parts))
         }
-        Stmt::Return(word, value, semicolon) => {
+        Stmt::Return {
+            word,
+            value,
+            semicolon,
+        } => {
             let value = erase_value(alloc, value)?;
-            Ok(Stmt::Return(*word, value, *semicolon))
+            Ok(Stmt::Return {
+                word: *word,
+                value,
+                semicolon: *semicolon,
+            })
         }
         Stmt::Jump(jump) => {
-            let jump = copy_jump(alloc, jump)?;
+            let jump = try_clone_jump(alloc, jump)?;
             Ok(Stmt::Jump(jump))
         }
         Stmt::Expression(value, semicolon) => {
@@ -187,35 +238,35 @@ pub fn erase_loop(alloc: Global, tree: &Loop) -> Result<Loop, AllocError>
     ensures { IfOk result (λ x. view.loop x ≡ erased.loop (view.loop tree.now)) }
 {
     match tree {
-        Loop::For(
+        Loop::For {
             word,
             opening,
             start,
             first_semicolon,
             condition,
-            semicolon,
+            second_semicolon,
             updates,
             closing,
             body,
-        ) => {
+        } => {
             let start = erase_value(alloc, start)?;
             let condition = erase_value(alloc, condition)?;
             let updates = erase_items(alloc, updates)?;
             let body = erase_stmt(alloc, body)?;
-            make::for_loop(
+            statement::for_loop(
                 alloc,
                 *word,
                 *opening,
                 start,
                 *first_semicolon,
                 condition,
-                *semicolon,
+                *second_semicolon,
                 updates,
                 *closing,
                 body,
             )
         }
-        Loop::ForVariables(
+        Loop::ForVariables {
             word,
             opening,
             variables,
@@ -224,34 +275,64 @@ pub fn erase_loop(alloc: Global, tree: &Loop) -> Result<Loop, AllocError>
             updates,
             closing,
             body,
-        ) => {
+        } => {
             let variables = erase_variables(alloc, variables)?;
             let condition = erase_value(alloc, condition)?;
             let updates = erase_items(alloc, updates)?;
             let body = erase_stmt(alloc, body)?;
-            make::for_variables(
+            statement::for_variables(
                 alloc, *word, *opening, variables, condition, *semicolon, updates, *closing, body,
             )
         }
-        Loop::ForIn(word, opening, kind, name, inside, iterated, closing, body) => {
+        Loop::ForIn {
+            word,
+            opening,
+            kind,
+            name,
+            in_word,
+            iterated,
+            closing,
+            body,
+        } => {
             let kind = erase_kind(kind, name);
-            let name = copy_identifier(alloc, name)?;
+            let name = try_clone_identifier(alloc, name)?;
             let iterated = erase_expr(alloc, iterated)?;
             let body = erase_stmt(alloc, body)?;
-            make::for_in(
-                alloc, *word, *opening, kind, name, *inside, iterated, *closing, body,
+            statement::for_in(
+                alloc, *word, *opening, kind, name, *in_word, iterated, *closing, body,
             )
         }
-        Loop::While(word, opening, condition, closing, body) => {
+        Loop::While {
+            word,
+            opening,
+            condition,
+            closing,
+            body,
+        } => {
             let condition = erase_expr(alloc, condition)?;
             let body = erase_stmt(alloc, body)?;
-            make::while_loop(alloc, *word, *opening, condition, *closing, body)
+            statement::while_loop(alloc, *word, *opening, condition, *closing, body)
         }
-        Loop::Do(word, body, again, opening, condition, closing, semicolon) => {
+        Loop::Do {
+            word,
+            body,
+            while_word,
+            opening,
+            condition,
+            closing,
+            semicolon,
+        } => {
             let body = erase_stmt(alloc, body)?;
             let condition = erase_expr(alloc, condition)?;
-            make::do_loop(
-                alloc, *word, body, *again, *opening, condition, *closing, *semicolon,
+            statement::do_loop(
+                alloc,
+                *word,
+                body,
+                *while_word,
+                *opening,
+                condition,
+                *closing,
+                *semicolon,
             )
         }
     }
@@ -263,16 +344,10 @@ pub fn erase_variables(alloc: Global, tree: &Variables) -> Result<Variables, All
     ensures { IfOk result (λ x. view.variables x ≡ erased.variables (view.variables tree.now)) }
 {
     let kind = erase_kind(&tree.kind, &tree.name);
-    let name = copy_identifier(alloc, &tree.name)?;
+    let name = try_clone_identifier(alloc, &tree.name)?;
     let value = erase_value(alloc, &tree.value)?;
     let more = erase_more_variables(alloc, &tree.more)?;
-    Ok(Variables {
-        kind,
-        name,
-        value,
-        more,
-        semicolon: tree.semicolon,
-    })
+    Ok(statement::variables(kind, name, value, more, tree.semicolon))
 }
 
 /// A function without its result type (ECMA-408, 9 Functions).
@@ -280,16 +355,10 @@ pub fn erase_variables(alloc: Global, tree: &Variables) -> Result<Variables, All
 pub fn erase_function(alloc: Global, tree: &Function) -> Result<Function, AllocError>
     ensures { IfOk result (λ x. view.function x ≡ erased.function (view.function tree.now)) }
 {
-    let name = copy_identifier(alloc, &tree.name)?;
+    let name = try_clone_identifier(alloc, &tree.name)?;
     let parameters = erase_parameters(alloc, &tree.parameters)?;
     let body = erase_body(alloc, &tree.body)?;
-    Ok(Function {
-        external: tree.external,
-        result_type: None,
-        name,
-        parameters,
-        body,
-    })
+    Ok(statement::function(tree.external, None, name, parameters, body))
 }
 
 /// `a, b = 1`
@@ -298,7 +367,8 @@ pub fn erase_parameter_list(
     alloc: Global,
     all: &Vec<Parameter>,
 ) -> Result<Vec<Parameter>, AllocError>
-    ensures { IfOk result (λ x. parameter_list_of x.items ≡ erased.parameter_list (parameter_list_of all.now.items)) }
+    ensures { IfOk result (λ x. parameter_list_of x.items ≡
+        erased.parameter_list (parameter_list_of all.now.items)) }
 {
     let mut found = Vec::new(alloc);
     for parameter in all {
@@ -337,11 +407,12 @@ pub fn erase_stmts(alloc: Global, all: &Vec<Stmt>) -> Result<Vec<Stmt>, AllocErr
 /// `, a = b, c`
 #[cycle(erase)]
 pub fn erase_more_variables(alloc: Global, all: &Vec<Variable>) -> Result<Vec<Variable>, AllocError>
-    ensures { IfOk result (λ x. more_variables_of x.items ≡ erased.more_variables (more_variables_of all.now.items)) }
+    ensures { IfOk result (λ x. more_variables_of x.items ≡
+        erased.more_variables (more_variables_of all.now.items)) }
 {
     let mut found = Vec::new(alloc);
     for variable in all {
-        let name = copy_identifier(alloc, &variable.name)?;
+        let name = try_clone_identifier(alloc, &variable.name)?;
         let value = erase_value(alloc, &variable.value)?;
         found.push(Variable {
             comma: variable.comma,
@@ -358,11 +429,12 @@ pub fn erase_switch_parts(
     alloc: Global,
     all: &Vec<SwitchPart>,
 ) -> Result<Vec<SwitchPart>, AllocError>
-    ensures { IfOk result (λ x. switch_parts_of x.items ≡ erased.switch_parts (switch_parts_of all.now.items)) }
+    ensures { IfOk result (λ x. switch_parts_of x.items ≡
+        erased.switch_parts (switch_parts_of all.now.items)) }
 {
     let mut found = Vec::new(alloc);
     for part in all {
-        let labels = copy_labels(alloc, &part.labels)?;
+        let labels = try_clone_labels(alloc, &part.labels)?;
         let value = erase_value(alloc, &part.value)?;
         let statements = erase_stmts(alloc, &part.statements)?;
         found.push(SwitchPart {
@@ -379,11 +451,12 @@ pub fn erase_switch_parts(
 /// The parts of a `try` behind its block (ECMA-408, 17.11 Try).
 #[cycle(erase)]
 pub fn erase_try_parts(alloc: Global, all: &Vec<TryPart>) -> Result<Vec<TryPart>, AllocError>
-    ensures { IfOk result (λ x. try_parts_of x.items ≡ erased.try_parts (try_parts_of all.now.items)) }
+    ensures { IfOk result (λ x. try_parts_of x.items ≡
+        erased.try_parts (try_parts_of all.now.items)) }
 {
     let mut found = Vec::new(alloc);
     for part in all {
-        let kind = copy_try_kind(alloc, &part.kind)?;
+        let kind = try_clone_try_kind(alloc, &part.kind)?;
         let block = erase_block(alloc, &part.block)?;
         found.push(TryPart { kind, block })?;
     }

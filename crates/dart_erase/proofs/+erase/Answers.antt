@@ -21,19 +21,19 @@ use Rattle.dart_tree.specs.declared.expression.Arguments.{out-Arguments}
 use Rattle.dart_tree.specs.declared.parameter.Parameters.{out-Parameters}
 use Rattle.dart_tree.specs.declared.statement.Variables.{out-Variables}
 use Rattle.dart_tree.specs.declared.statement.Function.{out-Function}
-use Rattle.dart_tree.specs.Erased as erased
+use Rattle.dart_erase.specs.Erased as erased
 use Rattle.dart_tree.specs.View as view
 use Rattle.dart_tree.specs.Lists.{tails_of, pieces_of, selectors_of, cascades_of, items_of, entries_of, parameter_list_of, metadata_of, stmts_of, more_variables_of, switch_parts_of, try_parts_of}
-use Rattle.dart_tree.proofs.Rows.{view_atom, view_bare_super, view_block_body, view_block_stmt, view_call, view_expression_stmt, view_function_literal, view_function_stmt, view_jump, view_list_literal, view_loop, view_map_literal, view_member, view_new_object, view_no_body, view_omitted, view_plain, view_postfix, view_primary, view_return_stmt, view_switch_stmt, view_text, view_try_stmt, view_variables_stmt}
-use Rattle.dart_parts.proofs.Copies.{become, turn, over}
-use Rattle.dart_erase.proofs.Erasing.{each_cascades, each_entries, each_items, each_metadata, each_more_variables, each_parameter_list, each_pieces, each_selectors, each_stmts, each_switch_parts, each_tails, each_try_parts, erasing_arrow_body, erasing_as_type, erasing_assign, erasing_atom, erasing_bare_super, erasing_binary, erasing_block_body, erasing_block_stmt, erasing_call, erasing_conditional, erasing_do_loop, erasing_expression_stmt, erasing_for_in, erasing_for_loop, erasing_for_variables, erasing_function_literal, erasing_function_stmt, erasing_given, erasing_if_else, erasing_if_stmt, erasing_index, erasing_is_type, erasing_jump, erasing_labelled, erasing_list_literal, erasing_loop, erasing_map_literal, erasing_member, erasing_new_object, erasing_no_body, erasing_omitted, erasing_parenthesized, erasing_plain, erasing_postfix, erasing_prefix, erasing_primary, erasing_return_stmt, erasing_super_access, erasing_switch_stmt, erasing_text, erasing_the_annotation, erasing_the_arguments, erasing_the_block, erasing_the_function, erasing_the_parameter, erasing_the_parameters, erasing_the_variables, erasing_throw, erasing_try_stmt, erasing_variables_stmt, erasing_while_loop, made_the_annotation, made_the_arguments, made_the_function, made_the_parameter, made_the_parameters, made_the_variables, none_cascades, none_entries, none_items, none_metadata, none_more_variables, none_parameter_list, none_pieces, none_selectors, none_stmts, none_switch_parts, none_tails, none_try_parts}
+use Rattle.dart_tree.proofs.Rows.{view_atom, view_bare_super, view_call, view_expression_stmt, view_function_literal, view_function_stmt, view_jump, view_loop, view_member, view_no_body, view_omitted, view_primary, view_return_stmt, view_variables_stmt}
+use Rattle.dart_node.proofs.Copies.{become, turn, over}
+use Rattle.dart_erase.proofs.Erasing.{each_cascades, each_entries, each_items, each_metadata, each_more_variables, each_parameter_list, each_pieces, each_selectors, each_stmts, each_switch_parts, each_tails, each_try_parts, erasing_arrow_body, erasing_as_type, erasing_assign, erasing_atom, erasing_bare_super, erasing_binary, erasing_block_body, erasing_block_stmt, erasing_call, erasing_conditional, erasing_do_loop, erasing_expression_stmt, erasing_for_in, erasing_for_loop, erasing_for_variables, erasing_function_literal, erasing_function_stmt, erasing_given, erasing_if_else, erasing_if_stmt, erasing_index, erasing_is_type, erasing_jump, erasing_labelled, erasing_list_literal, erasing_loop, erasing_map_literal, erasing_member, erasing_new_object, erasing_no_body, erasing_omitted, erasing_parenthesized, erasing_plain, erasing_postfix, erasing_prefix, erasing_primary, erasing_return_stmt, erasing_super_access, erasing_switch_stmt, erasing_text, erasing_the_annotation, erasing_the_arguments, erasing_the_block, erasing_the_function, erasing_the_parameter, erasing_the_parameters, erasing_the_variables, erasing_throw, erasing_try_stmt, erasing_variables_stmt, erasing_while_loop, none_cascades, none_entries, none_items, none_metadata, none_more_variables, none_parameter_list, none_pieces, none_selectors, none_stmts, none_switch_parts, none_tails, none_try_parts}
 use Rattle.dart_erase.proofs.+erase.Goals as goal
 
 pub expression::erase_expr-returns-in_ok-value-in-Assign : goal.expression::erase_expr-returns-in_ok-value-in-Assign
 expression::erase_expr-returns-in_ok-value-in-Assign t c = become view.expr c.assign.result c.assign.ensures (rw (c.in_ok-target-in-Assign.ensures, c.in_ok-value-in-Assign.ensures, c.deref.ensures) refl ∙ sym (ap (λ (x : Expr). erased.expr (view.expr x)) c.in-Assign.is ∙ erasing_assign c.in-Assign.target c.in-Assign.operator c.in-Assign.value))
 
 pub expression::erase_expr-returns-in_ok-cascades-in-Plain : goal.expression::erase_expr-returns-in_ok-cascades-in-Plain
-expression::erase_expr-returns-in_ok-cascades-in-Plain t c = view_plain c.in_ok-operand-in-Plain.operand c.in_ok-cascades-in-Plain.cascades ∙ rw (c.in_ok-operand-in-Plain.ensures, c.in_ok-cascades-in-Plain.ensures) refl ∙ sym (ap (λ (x : Expr). erased.expr (view.expr x)) c.in-Plain.is ∙ erasing_plain c.in-Plain.operand c.in-Plain.cascades)
+expression::erase_expr-returns-in_ok-cascades-in-Plain t c = c.plain.ensures ∙ rw (c.in_ok-operand-in-Plain.ensures, c.in_ok-cascades-in-Plain.ensures) refl ∙ sym (ap (λ (x : Expr). erased.expr (view.expr x)) c.in-Plain.is ∙ erasing_plain c.in-Plain.operand c.in-Plain.cascades)
 
 pub expression::erase_expr-returns-in_ok-value-in-Throw : goal.expression::erase_expr-returns-in_ok-value-in-Throw
 expression::erase_expr-returns-in_ok-value-in-Throw t c = become view.expr c.throw.result c.throw.ensures (rw (c.in_ok-value-in-Throw.ensures, c.deref-in-Throw.ensures) refl ∙ sym (ap (λ (x : Expr). erased.expr (view.expr x)) c.in-Throw.is ∙ erasing_throw c.in-Throw.word c.in-Throw.value))
@@ -44,17 +44,17 @@ expression::erase_operand-returns-in_ok-second-in-Conditional t c = become view.
 pub expression::erase_operand-returns-in_ok-more-in-Binary : goal.expression::erase_operand-returns-in_ok-more-in-Binary
 expression::erase_operand-returns-in_ok-more-in-Binary t c = become view.operand c.binary.result c.binary.ensures (rw (c.in_ok-first-in-Binary.ensures, c.in_ok-more-in-Binary.ensures, c.deref-in-Binary.ensures) refl ∙ sym (ap (λ (x : Operand). erased.operand (view.operand x)) c.in-Binary.is ∙ erasing_binary c.in-Binary.first c.in-Binary.more))
 
-pub expression::erase_operand-returns-in_ok-of-in-Is : goal.expression::erase_operand-returns-in_ok-of-in-Is
-expression::erase_operand-returns-in_ok-of-in-Is t c = become view.operand c.is_type.result c.is_type.ensures (rw (c.in_ok-operand-in-Is.ensures, c.in_ok-of-in-Is.ensures, c.deref-in-Is.ensures) refl ∙ sym (ap (λ (x : Operand). erased.operand (view.operand x)) c.in-Is.is ∙ erasing_is_type c.in-Is.operand c.in-Is.word c.in-Is.bang c.in-Is.of))
+pub expression::erase_operand-returns-in_ok-type_node-in-Is : goal.expression::erase_operand-returns-in_ok-type_node-in-Is
+expression::erase_operand-returns-in_ok-type_node-in-Is t c = become view.operand c.is_type.result c.is_type.ensures (rw (c.in_ok-operand-in-Is.ensures, c.in_ok-type_node-in-Is.ensures, c.deref-in-Is.ensures) refl ∙ sym (ap (λ (x : Operand). erased.operand (view.operand x)) c.in-Is.is ∙ erasing_is_type c.in-Is.operand c.in-Is.word c.in-Is.bang c.in-Is.type_node))
 
-pub expression::erase_operand-returns-in_ok-of-in-As : goal.expression::erase_operand-returns-in_ok-of-in-As
-expression::erase_operand-returns-in_ok-of-in-As t c = become view.operand c.as_type.result c.as_type.ensures (rw (c.in_ok-operand-in-As.ensures, c.in_ok-of-in-As.ensures, c.deref-in-As.ensures) refl ∙ sym (ap (λ (x : Operand). erased.operand (view.operand x)) c.in-As.is ∙ erasing_as_type c.in-As.operand c.in-As.word c.in-As.of))
+pub expression::erase_operand-returns-in_ok-type_node-in-As : goal.expression::erase_operand-returns-in_ok-type_node-in-As
+expression::erase_operand-returns-in_ok-type_node-in-As t c = become view.operand c.as_type.result c.as_type.ensures (rw (c.in_ok-operand-in-As.ensures, c.in_ok-type_node-in-As.ensures, c.deref-in-As.ensures) refl ∙ sym (ap (λ (x : Operand). erased.operand (view.operand x)) c.in-As.is ∙ erasing_as_type c.in-As.operand c.in-As.word c.in-As.type_node))
 
 pub expression::erase_operand-returns-in_ok-operand-in-Prefix : goal.expression::erase_operand-returns-in_ok-operand-in-Prefix
 expression::erase_operand-returns-in_ok-operand-in-Prefix t c = become view.operand c.prefix.result c.prefix.ensures (rw (c.in_ok-operand-in-Prefix.ensures, c.deref-in-Prefix.ensures) refl ∙ sym (ap (λ (x : Operand). erased.operand (view.operand x)) c.in-Prefix.is ∙ erasing_prefix c.in-Prefix.operator c.in-Prefix.operand))
 
 pub expression::erase_operand-returns-in_ok-selectors-in-Postfix : goal.expression::erase_operand-returns-in_ok-selectors-in-Postfix
-expression::erase_operand-returns-in_ok-selectors-in-Postfix t c = view_postfix c.in_ok-operand-in-Postfix.operand c.in_ok-selectors-in-Postfix.selectors c.in-Postfix.operator ∙ rw (c.in_ok-operand-in-Postfix.ensures, c.in_ok-selectors-in-Postfix.ensures) refl ∙ sym (ap (λ (x : Operand). erased.operand (view.operand x)) c.in-Postfix.is ∙ erasing_postfix c.in-Postfix.operand c.in-Postfix.selectors c.in-Postfix.operator)
+expression::erase_operand-returns-in_ok-selectors-in-Postfix t c = c.postfix.ensures ∙ rw (c.in_ok-primary-in-Postfix.ensures, c.in_ok-selectors-in-Postfix.ensures) refl ∙ sym (ap (λ (x : Operand). erased.operand (view.operand x)) c.in-Postfix.is ∙ erasing_postfix c.in-Postfix.primary c.in-Postfix.selectors c.in-Postfix.operator)
 
 pub expression::erase_operand-returns-in_ok-primary-in-Primary : goal.expression::erase_operand-returns-in_ok-primary-in-Primary
 expression::erase_operand-returns-in_ok-primary-in-Primary t c = view_primary c.in_ok-primary-in-Primary.primary ∙ rw (c.in_ok-primary-in-Primary.ensures) refl ∙ sym (ap (λ (x : Operand). erased.operand (view.operand x)) c.in-Primary.is ∙ erasing_primary c.in-Primary.primary)
@@ -69,16 +69,16 @@ pub expression::erase_primary-returns-in_ok-atom-in-Atom : goal.expression::eras
 expression::erase_primary-returns-in_ok-atom-in-Atom t c = view_atom c.in_ok-atom-in-Atom.atom ∙ rw (c.in_ok-atom-in-Atom.ensures) refl ∙ sym (ap (λ (x : Primary). erased.primary (view.primary x)) c.in-Atom.is ∙ erasing_atom c.in-Atom.atom)
 
 pub expression::erase_primary-returns-in_ok-pieces-in-Text : goal.expression::erase_primary-returns-in_ok-pieces-in-Text
-expression::erase_primary-returns-in_ok-pieces-in-Text t c = view_text c.in_ok-pieces-in-Text.pieces ∙ rw (c.in_ok-pieces-in-Text.ensures) refl ∙ sym (ap (λ (x : Primary). erased.primary (view.primary x)) c.in-Text.is ∙ erasing_text c.in-Text.pieces)
+expression::erase_primary-returns-in_ok-pieces-in-Text t c = c.text.ensures ∙ rw (c.in_ok-pieces-in-Text.ensures) refl ∙ sym (ap (λ (x : Primary). erased.primary (view.primary x)) c.in-Text.is ∙ erasing_text c.in-Text.pieces)
 
 pub expression::erase_primary-returns-in_ok-items-in-List : goal.expression::erase_primary-returns-in_ok-items-in-List
-expression::erase_primary-returns-in_ok-items-in-List t c = view_list_literal c.in_ok-types-in-List.types c.in-List.opening c.in_ok-items-in-List.items c.in-List.comma c.in-List.closing ∙ rw (c.in_ok-types-in-List.ensures, c.in_ok-items-in-List.ensures) refl ∙ sym (ap (λ (x : Primary). erased.primary (view.primary x)) c.in-List.is ∙ erasing_list_literal c.in-List.types c.in-List.opening c.in-List.items c.in-List.comma c.in-List.closing)
+expression::erase_primary-returns-in_ok-items-in-List t c = c.list_literal.ensures ∙ rw (c.in_ok-types-in-List.ensures, c.in_ok-items-in-List.ensures) refl ∙ sym (ap (λ (x : Primary). erased.primary (view.primary x)) c.in-List.is ∙ erasing_list_literal c.in-List.type_arguments c.in-List.opening c.in-List.items c.in-List.comma c.in-List.closing)
 
 pub expression::erase_primary-returns-in_ok-entries-in-Map : goal.expression::erase_primary-returns-in_ok-entries-in-Map
-expression::erase_primary-returns-in_ok-entries-in-Map t c = view_map_literal c.in_ok-types-in-Map.types c.in-Map.opening c.in_ok-entries-in-Map.entries c.in-Map.comma c.in-Map.closing ∙ rw (c.in_ok-types-in-Map.ensures, c.in_ok-entries-in-Map.ensures) refl ∙ sym (ap (λ (x : Primary). erased.primary (view.primary x)) c.in-Map.is ∙ erasing_map_literal c.in-Map.types c.in-Map.opening c.in-Map.entries c.in-Map.comma c.in-Map.closing)
+expression::erase_primary-returns-in_ok-entries-in-Map t c = c.map_literal.ensures ∙ rw (c.in_ok-types-in-Map.ensures, c.in_ok-entries-in-Map.ensures) refl ∙ sym (ap (λ (x : Primary). erased.primary (view.primary x)) c.in-Map.is ∙ erasing_map_literal c.in-Map.type_arguments c.in-Map.opening c.in-Map.entries c.in-Map.comma c.in-Map.closing)
 
 pub expression::erase_primary-returns-in_ok-arguments-in-New : goal.expression::erase_primary-returns-in_ok-arguments-in-New
-expression::erase_primary-returns-in_ok-arguments-in-New t c = view_new_object c.in-New.word c.in_ok-of-in-New.of c.in_ok-constructor-in-New.constructor c.in_ok-arguments-in-New.arguments ∙ rw (c.in_ok-of-in-New.ensures, c.in_ok-constructor-in-New.ensures, c.in_ok-arguments-in-New.ensures) refl ∙ sym (ap (λ (x : Primary). erased.primary (view.primary x)) c.in-New.is ∙ erasing_new_object c.in-New.word c.in-New.of c.in-New.constructor c.in-New.arguments)
+expression::erase_primary-returns-in_ok-arguments-in-New t c = c.new_object.ensures ∙ rw (c.in_ok-class-in-New.ensures, c.in_ok-constructor-in-New.ensures, c.in_ok-arguments-in-New.ensures) refl ∙ sym (ap (λ (x : Primary). erased.primary (view.primary x)) c.in-New.is ∙ erasing_new_object c.in-New.creation c.in-New.class c.in-New.constructor c.in-New.arguments)
 
 pub expression::erase_primary-returns-in_ok-body-in-Function : goal.expression::erase_primary-returns-in_ok-body-in-Function
 expression::erase_primary-returns-in_ok-body-in-Function t c = view_function_literal c.in_ok-parameters-in-Function.parameters c.in_ok-body-in-Function.body ∙ rw (c.in_ok-parameters-in-Function.ensures, c.in_ok-body-in-Function.ensures) refl ∙ sym (ap (λ (x : Primary). erased.primary (view.primary x)) c.in-Function.is ∙ erasing_function_literal c.in-Function.parameters c.in-Function.body)
@@ -102,7 +102,7 @@ pub expression::erase_value-returns-in_ok-value-in-Given : goal.expression::eras
 expression::erase_value-returns-in_ok-value-in-Given t c = become view.value c.given.result c.given.ensures (rw (c.in_ok-value-in-Given.ensures, c.deref.ensures) refl ∙ sym (ap (λ (x : Value). erased.value (view.value x)) c.in-Given.is ∙ erasing_given c.in-Given.operator c.in-Given.value))
 
 pub expression::erase_arguments-returns : goal.expression::erase_arguments-returns
-expression::erase_arguments-returns t c = made_the_arguments (record { opening = (out-Arguments c.args.tree.now).opening; items = c.in_ok-items.items; closing = (out-Arguments c.args.tree.now).closing }) ∙ rw (c.in_ok-items.ensures) refl ∙ sym (erasing_the_arguments c.args.tree.now)
+expression::erase_arguments-returns t c = c.arguments.ensures ∙ rw (c.in_ok-items.ensures) refl ∙ sym (erasing_the_arguments c.args.tree.now)
 
 pub expression::erase_tails-loop-tail-init : goal.expression::erase_tails-loop-tail-init
 expression::erase_tails-loop-tail-init t c = λ ys e. ap tails_of (ap (λ (l : List Tail). l ++ ys) c.new-found.ensures.items) ∙ e
@@ -159,19 +159,19 @@ pub expression::erase_entries-returns : goal.expression::erase_entries-returns
 expression::erase_entries-returns t c = over entries_of (λ (xs : List Entry). erased.entries (entries_of xs)) none_entries c.args.all.now.items c.deref-entry-items.result.now c.loop-entry.entry-index c.loop-entry.found.items c.deref-entry-items.ensures.value c.loop-entry-test.false c.loop-entry.invariant
 
 pub statement::erase_parameters-returns : goal.statement::erase_parameters-returns
-statement::erase_parameters-returns t c = made_the_parameters (record { opening = (out-Parameters c.args.tree.now).opening; required = c.in_ok-required.required; brackets = (out-Parameters c.args.tree.now).brackets; optional = c.in_ok-optional.optional; closing = (out-Parameters c.args.tree.now).closing }) ∙ rw (c.in_ok-required.ensures, c.in_ok-optional.ensures) refl ∙ sym (erasing_the_parameters c.args.tree.now)
+statement::erase_parameters-returns t c = c.parameters.ensures ∙ rw (c.in_ok-required.ensures, c.in_ok-optional.ensures) refl ∙ sym (erasing_the_parameters c.args.tree.now)
 
 pub statement::erase_parameter-returns : goal.statement::erase_parameter-returns
-statement::erase_parameter-returns t c = made_the_parameter (record { comma = (out-Parameter c.args.tree.now).comma; metadata = c.in_ok-metadata.metadata; kind = c.in_ok-kind.kind; value = c.in_ok-value.value }) ∙ rw (c.in_ok-metadata.ensures, c.in_ok-kind.ensures, c.in_ok-value.ensures) refl ∙ sym (erasing_the_parameter c.args.tree.now)
+statement::erase_parameter-returns t c = c.parameter.ensures ∙ rw (c.in_ok-metadata.ensures, c.in_ok-kind.ensures, c.in_ok-value.ensures) refl ∙ sym (erasing_the_parameter c.args.tree.now)
 
 pub statement::erase_annotation-returns : goal.statement::erase_annotation-returns
-statement::erase_annotation-returns t c = made_the_annotation (record { at = (out-Annotation c.args.tree.now).at; name = c.in_ok-name.name; more = c.in_ok-more.more; call = (out-Annotation c.args.tree.now).call; items = c.in_ok-items.items }) ∙ rw (c.in_ok-name.ensures, c.in_ok-more.ensures, c.in_ok-items.ensures) refl ∙ sym (erasing_the_annotation c.args.tree.now)
+statement::erase_annotation-returns t c = c.annotation.ensures ∙ rw (c.in_ok-name.ensures, c.in_ok-more.ensures, c.in_ok-items.ensures) refl ∙ sym (erasing_the_annotation c.args.tree.now)
 
 pub statement::erase_body-returns-in_ok-value-in-Arrow : goal.statement::erase_body-returns-in_ok-value-in-Arrow
 statement::erase_body-returns-in_ok-value-in-Arrow t c = become view.body c.arrow.result c.arrow.ensures (rw (c.in_ok-value-in-Arrow.ensures, c.deref.ensures) refl ∙ sym (ap (λ (x : Body). erased.body (view.body x)) c.in-Arrow.is ∙ erasing_arrow_body c.in-Arrow.arrow c.in-Arrow.value c.in-Arrow.semicolon))
 
 pub statement::erase_body-returns-in_ok-block-in-Block : goal.statement::erase_body-returns-in_ok-block-in-Block
-statement::erase_body-returns-in_ok-block-in-Block t c = view_block_body c.in_ok-block-in-Block.block ∙ rw (c.in_ok-block-in-Block.ensures) refl ∙ sym (ap (λ (x : Body). erased.body (view.body x)) c.in-Block.is ∙ erasing_block_body c.in-Block.block)
+statement::erase_body-returns-in_ok-block-in-Block t c = c.block_body.ensures ∙ rw (c.in_ok-block-in-Block.ensures) refl ∙ sym (ap (λ (x : Body). erased.body (view.body x)) c.in-Block.is ∙ erasing_block_body c.in-Block.block)
 
 pub statement::erase_body-returns-in-Omitted : goal.statement::erase_body-returns-in-Omitted
 statement::erase_body-returns-in-Omitted t c = view_no_body c.in-Omitted.semicolon ∙ sym (ap (λ (x : Body). erased.body (view.body x)) c.in-Omitted.is ∙ erasing_no_body c.in-Omitted.semicolon)
@@ -183,7 +183,7 @@ pub statement::erase_stmt-returns-in_ok-statement-in-Labelled : goal.statement::
 statement::erase_stmt-returns-in_ok-statement-in-Labelled t c = become view.stmt c.labelled.result c.labelled.ensures (rw (c.in_ok-label-in-Labelled.ensures, c.in_ok-statement-in-Labelled.ensures, c.deref.ensures) refl ∙ sym (ap (λ (x : Stmt). erased.stmt (view.stmt x)) c.in-Labelled.is ∙ erasing_labelled c.in-Labelled.label c.in-Labelled.statement))
 
 pub statement::erase_stmt-returns-in_ok-block-in-Block : goal.statement::erase_stmt-returns-in_ok-block-in-Block
-statement::erase_stmt-returns-in_ok-block-in-Block t c = view_block_stmt c.in_ok-block-in-Block.block ∙ rw (c.in_ok-block-in-Block.ensures) refl ∙ sym (ap (λ (x : Stmt). erased.stmt (view.stmt x)) c.in-Block.is ∙ erasing_block_stmt c.in-Block.block)
+statement::erase_stmt-returns-in_ok-block-in-Block t c = c.block_statement.ensures ∙ rw (c.in_ok-block-in-Block.ensures) refl ∙ sym (ap (λ (x : Stmt). erased.stmt (view.stmt x)) c.in-Block.is ∙ erasing_block_stmt c.in-Block.block)
 
 pub statement::erase_stmt-returns-in_ok-variables-in-Variables : goal.statement::erase_stmt-returns-in_ok-variables-in-Variables
 statement::erase_stmt-returns-in_ok-variables-in-Variables t c = view_variables_stmt c.in_ok-variables-in-Variables.variables ∙ rw (c.in_ok-variables-in-Variables.ensures) refl ∙ sym (ap (λ (x : Stmt). erased.stmt (view.stmt x)) c.in-Variables.is ∙ erasing_variables_stmt c.in-Variables.variables)
@@ -195,16 +195,16 @@ pub statement::erase_stmt-returns-in_ok-first-in-If : goal.statement::erase_stmt
 statement::erase_stmt-returns-in_ok-first-in-If t c = become view.stmt c.if_statement.result c.if_statement.ensures (rw (c.in_ok-condition-in-If.ensures, c.in_ok-first-in-If.ensures, c.deref-in-If.ensures) refl ∙ sym (ap (λ (x : Stmt). erased.stmt (view.stmt x)) c.in-If.is ∙ erasing_if_stmt c.in-If.word c.in-If.opening c.in-If.condition c.in-If.closing c.in-If.first))
 
 pub statement::erase_stmt-returns-in_ok-second-in-IfElse : goal.statement::erase_stmt-returns-in_ok-second-in-IfElse
-statement::erase_stmt-returns-in_ok-second-in-IfElse t c = become view.stmt c.if_else.result c.if_else.ensures (rw (c.in_ok-condition-in-IfElse.ensures, c.in_ok-first-in-IfElse.ensures, c.in_ok-second-in-IfElse.ensures, c.deref-in-IfElse.ensures, c.deref-in-IfElse-2.ensures) refl ∙ sym (ap (λ (x : Stmt). erased.stmt (view.stmt x)) c.in-IfElse.is ∙ erasing_if_else c.in-IfElse.word c.in-IfElse.opening c.in-IfElse.condition c.in-IfElse.closing c.in-IfElse.first c.in-IfElse.other c.in-IfElse.second))
+statement::erase_stmt-returns-in_ok-second-in-IfElse t c = become view.stmt c.if_else.result c.if_else.ensures (rw (c.in_ok-condition-in-IfElse.ensures, c.in_ok-first-in-IfElse.ensures, c.in_ok-second-in-IfElse.ensures, c.deref-in-IfElse.ensures, c.deref-in-IfElse-2.ensures) refl ∙ sym (ap (λ (x : Stmt). erased.stmt (view.stmt x)) c.in-IfElse.is ∙ erasing_if_else c.in-IfElse.word c.in-IfElse.opening c.in-IfElse.condition c.in-IfElse.closing c.in-IfElse.first c.in-IfElse.else_word c.in-IfElse.second))
 
 pub statement::erase_stmt-returns-in_ok-again-in-Loop : goal.statement::erase_stmt-returns-in_ok-again-in-Loop
 statement::erase_stmt-returns-in_ok-again-in-Loop t c = view_loop c.in_ok-again-in-Loop.again ∙ rw (c.in_ok-again-in-Loop.ensures) refl ∙ sym (ap (λ (x : Stmt). erased.stmt (view.stmt x)) c.in-Loop.is ∙ erasing_loop c.in-Loop.again)
 
 pub statement::erase_stmt-returns-in_ok-parts-in-Switch : goal.statement::erase_stmt-returns-in_ok-parts-in-Switch
-statement::erase_stmt-returns-in_ok-parts-in-Switch t c = view_switch_stmt c.in-Switch.word c.in-Switch.opening c.in_ok-value-in-Switch.value c.in-Switch.closing c.in-Switch.left c.in_ok-parts-in-Switch.parts c.in-Switch.right ∙ rw (c.in_ok-value-in-Switch.ensures, c.in_ok-parts-in-Switch.ensures) refl ∙ sym (ap (λ (x : Stmt). erased.stmt (view.stmt x)) c.in-Switch.is ∙ erasing_switch_stmt c.in-Switch.word c.in-Switch.opening c.in-Switch.value c.in-Switch.closing c.in-Switch.left c.in-Switch.parts c.in-Switch.right)
+statement::erase_stmt-returns-in_ok-parts-in-Switch t c = c.switch_statement.ensures ∙ rw (c.in_ok-value-in-Switch.ensures, c.in_ok-parts-in-Switch.ensures) refl ∙ sym (ap (λ (x : Stmt). erased.stmt (view.stmt x)) c.in-Switch.is ∙ erasing_switch_stmt c.in-Switch.word c.in-Switch.opening c.in-Switch.value c.in-Switch.closing c.in-Switch.opening_brace c.in-Switch.parts c.in-Switch.closing_brace)
 
 pub statement::erase_stmt-returns-in_ok-parts-in-Try : goal.statement::erase_stmt-returns-in_ok-parts-in-Try
-statement::erase_stmt-returns-in_ok-parts-in-Try t c = view_try_stmt c.in-Try.word c.in_ok-block-in-Try.block c.in_ok-parts-in-Try.parts ∙ rw (c.in_ok-block-in-Try.ensures, c.in_ok-parts-in-Try.ensures) refl ∙ sym (ap (λ (x : Stmt). erased.stmt (view.stmt x)) c.in-Try.is ∙ erasing_try_stmt c.in-Try.word c.in-Try.block c.in-Try.parts)
+statement::erase_stmt-returns-in_ok-parts-in-Try t c = c.try_statement.ensures ∙ rw (c.in_ok-block-in-Try.ensures, c.in_ok-parts-in-Try.ensures) refl ∙ sym (ap (λ (x : Stmt). erased.stmt (view.stmt x)) c.in-Try.is ∙ erasing_try_stmt c.in-Try.word c.in-Try.block c.in-Try.parts)
 
 pub statement::erase_stmt-returns-in_ok-value-in-Return : goal.statement::erase_stmt-returns-in_ok-value-in-Return
 statement::erase_stmt-returns-in_ok-value-in-Return t c = view_return_stmt c.in-Return.word c.in_ok-value-in-Return.value c.in-Return.semicolon ∙ rw (c.in_ok-value-in-Return.ensures) refl ∙ sym (ap (λ (x : Stmt). erased.stmt (view.stmt x)) c.in-Return.is ∙ erasing_return_stmt c.in-Return.word c.in-Return.value c.in-Return.semicolon)
@@ -216,25 +216,25 @@ pub statement::erase_stmt-returns-in_ok-value-in-Expression : goal.statement::er
 statement::erase_stmt-returns-in_ok-value-in-Expression t c = view_expression_stmt c.in_ok-value-in-Expression.value c.in-Expression.semicolon ∙ rw (c.in_ok-value-in-Expression.ensures) refl ∙ sym (ap (λ (x : Stmt). erased.stmt (view.stmt x)) c.in-Expression.is ∙ erasing_expression_stmt c.in-Expression.value c.in-Expression.semicolon)
 
 pub statement::erase_loop-returns-in_ok-body-in-For : goal.statement::erase_loop-returns-in_ok-body-in-For
-statement::erase_loop-returns-in_ok-body-in-For t c = become view.loop c.for_loop.result c.for_loop.ensures (rw (c.in_ok-start-in-For.ensures, c.in_ok-condition-in-For.ensures, c.in_ok-updates-in-For.ensures, c.in_ok-body-in-For.ensures, c.deref.ensures) refl ∙ sym (ap (λ (x : Loop). erased.loop (view.loop x)) c.in-For.is ∙ erasing_for_loop c.in-For.word c.in-For.opening c.in-For.start c.in-For.first_semicolon c.in-For.condition c.in-For.semicolon c.in-For.updates c.in-For.closing c.in-For.body))
+statement::erase_loop-returns-in_ok-body-in-For t c = become view.loop c.for_loop.result c.for_loop.ensures (rw (c.in_ok-start-in-For.ensures, c.in_ok-condition-in-For.ensures, c.in_ok-updates-in-For.ensures, c.in_ok-body-in-For.ensures, c.deref.ensures) refl ∙ sym (ap (λ (x : Loop). erased.loop (view.loop x)) c.in-For.is ∙ erasing_for_loop c.in-For.word c.in-For.opening c.in-For.start c.in-For.first_semicolon c.in-For.condition c.in-For.second_semicolon c.in-For.updates c.in-For.closing c.in-For.body))
 
 pub statement::erase_loop-returns-in_ok-body-in-ForVariables : goal.statement::erase_loop-returns-in_ok-body-in-ForVariables
 statement::erase_loop-returns-in_ok-body-in-ForVariables t c = become view.loop c.for_variables.result c.for_variables.ensures (rw (c.in_ok-variables-in-ForVariables.ensures, c.in_ok-condition-in-ForVariables.ensures, c.in_ok-updates-in-ForVariables.ensures, c.in_ok-body-in-ForVariables.ensures, c.deref-in-ForVariables.ensures) refl ∙ sym (ap (λ (x : Loop). erased.loop (view.loop x)) c.in-ForVariables.is ∙ erasing_for_variables c.in-ForVariables.word c.in-ForVariables.opening c.in-ForVariables.variables c.in-ForVariables.condition c.in-ForVariables.semicolon c.in-ForVariables.updates c.in-ForVariables.closing c.in-ForVariables.body))
 
 pub statement::erase_loop-returns-in_ok-body-in-ForIn : goal.statement::erase_loop-returns-in_ok-body-in-ForIn
-statement::erase_loop-returns-in_ok-body-in-ForIn t c = become view.loop c.for_in.result c.for_in.ensures (rw (c.erase_kind-kind.ensures, c.in_ok-name-in-ForIn.ensures, c.in_ok-iterated-in-ForIn.ensures, c.in_ok-body-in-ForIn.ensures, c.deref-in-ForIn.ensures) refl ∙ sym (ap (λ (x : Loop). erased.loop (view.loop x)) c.in-ForIn.is ∙ erasing_for_in c.in-ForIn.word c.in-ForIn.opening c.in-ForIn.kind c.in-ForIn.name c.in-ForIn.inside c.in-ForIn.iterated c.in-ForIn.closing c.in-ForIn.body))
+statement::erase_loop-returns-in_ok-body-in-ForIn t c = become view.loop c.for_in.result c.for_in.ensures (rw (c.erase_kind-kind.ensures, c.in_ok-name-in-ForIn.ensures, c.in_ok-iterated-in-ForIn.ensures, c.in_ok-body-in-ForIn.ensures, c.deref-in-ForIn.ensures) refl ∙ sym (ap (λ (x : Loop). erased.loop (view.loop x)) c.in-ForIn.is ∙ erasing_for_in c.in-ForIn.word c.in-ForIn.opening c.in-ForIn.kind c.in-ForIn.name c.in-ForIn.in_word c.in-ForIn.iterated c.in-ForIn.closing c.in-ForIn.body))
 
 pub statement::erase_loop-returns-in_ok-body-in-While : goal.statement::erase_loop-returns-in_ok-body-in-While
 statement::erase_loop-returns-in_ok-body-in-While t c = become view.loop c.while_loop.result c.while_loop.ensures (rw (c.in_ok-condition-in-While.ensures, c.in_ok-body-in-While.ensures, c.deref-in-While.ensures) refl ∙ sym (ap (λ (x : Loop). erased.loop (view.loop x)) c.in-While.is ∙ erasing_while_loop c.in-While.word c.in-While.opening c.in-While.condition c.in-While.closing c.in-While.body))
 
 pub statement::erase_loop-returns-in_ok-condition-in-Do : goal.statement::erase_loop-returns-in_ok-condition-in-Do
-statement::erase_loop-returns-in_ok-condition-in-Do t c = become view.loop c.do_loop.result c.do_loop.ensures (rw (c.in_ok-body-in-Do.ensures, c.in_ok-condition-in-Do.ensures, c.deref-in-Do.ensures) refl ∙ sym (ap (λ (x : Loop). erased.loop (view.loop x)) c.in-Do.is ∙ erasing_do_loop c.in-Do.word c.in-Do.body c.in-Do.again c.in-Do.opening c.in-Do.condition c.in-Do.closing c.in-Do.semicolon))
+statement::erase_loop-returns-in_ok-condition-in-Do t c = become view.loop c.do_loop.result c.do_loop.ensures (rw (c.in_ok-body-in-Do.ensures, c.in_ok-condition-in-Do.ensures, c.deref-in-Do.ensures) refl ∙ sym (ap (λ (x : Loop). erased.loop (view.loop x)) c.in-Do.is ∙ erasing_do_loop c.in-Do.word c.in-Do.body c.in-Do.while_word c.in-Do.opening c.in-Do.condition c.in-Do.closing c.in-Do.semicolon))
 
 pub statement::erase_variables-returns : goal.statement::erase_variables-returns
-statement::erase_variables-returns t c = made_the_variables (record { kind = c.erase_kind-kind.result; name = c.in_ok-name.name; value = c.in_ok-value.value; more = c.in_ok-more.more; semicolon = (out-Variables c.args.tree.now).semicolon }) ∙ rw (c.erase_kind-kind.ensures, c.in_ok-name.ensures, c.in_ok-value.ensures, c.in_ok-more.ensures) refl ∙ sym (erasing_the_variables c.args.tree.now)
+statement::erase_variables-returns t c = c.variables.ensures ∙ rw (c.erase_kind-kind.ensures, c.in_ok-name.ensures, c.in_ok-value.ensures, c.in_ok-more.ensures) refl ∙ sym (erasing_the_variables c.args.tree.now)
 
 pub statement::erase_function-returns : goal.statement::erase_function-returns
-statement::erase_function-returns t c = made_the_function (record { external = (out-Function c.args.tree.now).external; result_type = None; name = c.in_ok-name.name; parameters = c.in_ok-parameters.parameters; body = c.in_ok-body.body }) ∙ rw (c.in_ok-name.ensures, c.in_ok-parameters.ensures, c.in_ok-body.ensures) refl ∙ sym (erasing_the_function c.args.tree.now)
+statement::erase_function-returns t c = c.function.ensures ∙ rw (c.in_ok-name.ensures, c.in_ok-parameters.ensures, c.in_ok-body.ensures) refl ∙ sym (erasing_the_function c.args.tree.now)
 
 pub statement::erase_parameter_list-loop-parameter-init : goal.statement::erase_parameter_list-loop-parameter-init
 statement::erase_parameter_list-loop-parameter-init t c = λ ys e. ap parameter_list_of (ap (λ (l : List Parameter). l ++ ys) c.new-found.ensures.items) ∙ e

@@ -12,8 +12,8 @@ use Rattle.dart_tree.specs.declared.statement.Variable.{Variable}
 use Rattle.dart_tree.specs.declared.statement.SwitchPart.{SwitchPart}
 use Rattle.dart_tree.specs.declared.statement.TryPart.{TryPart}
 use Rattle.dart_tree.specs.Lists.{tails_of, pieces_of, selectors_of, cascades_of, items_of, entries_of, parameter_list_of, metadata_of, stmts_of, more_variables_of, switch_parts_of, try_parts_of}
-use Rattle.dart_tree.specs.Erased as erased
-use Rattle.dart_parts.proofs.Copies.{Done}
+use Rattle.dart_erase.specs.Erased as erased
+use Rattle.dart_node.proofs.Copies.{Done}
 use Rattle.dart_erase.proofs.+erase.Given as goal
 
 abbrev pub invariant-expression::erase_tails-loop-tail : goal.invariant-expression::erase_tails-loop-tail

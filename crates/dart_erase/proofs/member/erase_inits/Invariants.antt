@@ -1,8 +1,8 @@
 use Rattle.std.proofs.Common.{map}
-use Rattle.dart_tree.specs.UnitErased as unit_erased
+use Rattle.dart_erase.specs.UnitErased as unit_erased
 use Rattle.dart_tree.specs.UnitView as unit_view
-use Rattle.dart_parts.proofs.Copies.{Done}
-use Rattle.dart_erase.proofs.declaration.erase_inits.Given as goal
+use Rattle.dart_node.proofs.Copies.{Done}
+use Rattle.dart_erase.proofs.member.erase_inits.Given as goal
 
 abbrev pub invariant-loop-one : goal.invariant-loop-one
 invariant-loop-one l = Done (map unit_view.init) (λ xs. map unit_erased.init (map unit_view.init xs)) l.found.items l.one-index l.all.items
