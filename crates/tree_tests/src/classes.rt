@@ -1,195 +1,163 @@
 // Units of a class: with members of each kind that has types, and with what keeps its types.
-use crate::declaration::{
-    arrow_body, declared, function, member, metadata, parameter, parameters, unit_of_one, variables,
-};
-use crate::expression::{assigned, integer, plain, sum, variable};
-use crate::leaf::{at, final_typed, name, named_type, result_type, type_arguments, typed};
-use dart_parts::make::is_type;
+use crate::builder::{Builder, at, function};
+use dart_node::make::expression::is_type;
 use dart_token::sign::Sign;
 use dart_tree::declaration::{
     Bound, Class, ClassKind, Constructor, ConstructorName, Decl, DeclKind, Member, MemberKind,
     Modifier, OperatorMember, OperatorName, TypeParameter, TypeParameters,
 };
-use dart_tree::expression::{Arguments, Expr, Operand, Primary, Value};
-use dart_tree::parameter::{ParameterKind, Parameters, ThisDot, VariableKind};
+use dart_tree::expression::{Arguments, Creation, Expr, Operand, Primary, Value};
+use dart_tree::parameter::{ParameterKind, ThisDot, VariableKind};
 use dart_tree::statement::Body;
-use dart_tree::types::TypeNode;
+use dart_tree::types::{TypeArgument, TypeArguments, TypeNode};
 use dart_tree::unit::Unit;
-use std::alloc::{AllocError, Global};
+use std::process::Abort;
 
 /// `class C { static int n = 1; final int k; C(int this.k); int operator +(int o) => k + o; }`
-pub fn class_of_typed_members(alloc: Global) -> Result<Unit, AllocError> {
-    let c = name(alloc, 7, b"C")?;
-    let members = typed_members(alloc)?;
+pub fn class_of_typed_members<R: Abort>(b: &Builder<R>) -> Unit {
+    let mut members = typed_fields(b);
+    b.add(&mut members, constructor(b));
+    b.add(&mut members, plus_operator(b));
     let class = Class {
         abstracted: None,
         word: at(1),
-        name: c,
+        name: b.name(at(7), "C"),
         parameters: None,
-        kind: ClassKind::Declared(None, None, at(9), members, at(89)),
+        kind: ClassKind::Declared {
+            superclass: None,
+            interfaces: None,
+            opening: at(9),
+            members,
+            closing: at(89),
+        },
     };
-    unit_of_one(alloc, declared(alloc, DeclKind::Class(class)))
+    b.unit(b.one(b.declared(DeclKind::Class(class))))
 }
 
-/// `static int n = 1; final int k; C(int this.k); int operator +(int o) => k + o;`
-fn typed_members(alloc: Global) -> Result<Vec<Member>, AllocError> {
-    let n = static_field(alloc)?;
-    let k = final_field(alloc)?;
-    let c = constructor(alloc)?;
-    let plus = plus_operator(alloc)?;
-    let mut members = Vec::new(alloc);
-    members.push(n)?;
-    members.push(k)?;
-    members.push(c)?;
-    members.push(plus)?;
-    Ok(members)
-}
-
-/// `static int n = 1;`
-fn static_field(alloc: Global) -> Result<Member, AllocError> {
-    let kind = typed(alloc, 18, b"int")?;
-    let n = name(alloc, 22, b"n")?;
-    let one = integer(alloc, 26, b"1")?;
-    let value = assigned(alloc, 24, one)?;
-    let field = MemberKind::Variables(variables(alloc, kind, n, value, 27));
-    Ok(member(alloc, Modifier::Static(at(11)), field))
-}
-
-/// `final int k;`
-fn final_field(alloc: Global) -> Result<Member, AllocError> {
-    let kind = final_typed(alloc, 29, 35, b"int")?;
-    let k = name(alloc, 39, b"k")?;
-    let field = MemberKind::Variables(variables(alloc, kind, k, Value::Omitted, 40));
-    Ok(member(alloc, Modifier::Omitted, field))
-}
-
-/// `(int this.k)`
-fn field_parameters(alloc: Global) -> Result<Parameters, AllocError> {
-    let kind = typed(alloc, 44, b"int")?;
-    let this_dot = ThisDot {
-        this: at(48),
-        dot: at(52),
-    };
-    let k = name(alloc, 53, b"k")?;
-    let only = parameter(alloc, ParameterKind::Plain(kind, Some(this_dot), k));
-    parameters(alloc, 43, only, 54)
+/// `static int n = 1; final int k;`
+fn typed_fields<R: Abort>(b: &Builder<R>) -> Vec<Member> {
+    let one = b.assigned(at(24), b.integer(at(26), "1"));
+    let n = b.variables(b.typed(at(18), "int"), b.name(at(22), "n"), one, at(27));
+    let kind = VariableKind::Final(at(29), Some(b.type_node(at(35), "int")));
+    let k = b.variables(kind, b.name(at(39), "k"), Value::Omitted, at(40));
+    b.two(
+        b.member(Modifier::Static(at(11)), MemberKind::Variables(n)),
+        b.member(Modifier::Omitted, MemberKind::Variables(k)),
+    )
 }
 
 /// `C(int this.k);`
-fn constructor(alloc: Global) -> Result<Member, AllocError> {
-    let class = name(alloc, 42, b"C")?;
-    let of = ConstructorName { class, name: None };
-    let parameters = field_parameters(alloc)?;
-    let body = Body::Omitted(at(55));
-    let kind = MemberKind::Constructor(Constructor::Generative(of, parameters, None, body));
-    Ok(member(alloc, Modifier::Omitted, kind))
-}
-
-/// `(int o)`
-fn operator_parameters(alloc: Global) -> Result<Parameters, AllocError> {
-    let kind = typed(alloc, 72, b"int")?;
-    let o = name(alloc, 76, b"o")?;
-    let only = parameter(alloc, ParameterKind::Plain(kind, None, o));
-    parameters(alloc, 71, only, 77)
-}
-
-/// `=> k + o;`
-fn operator_body(alloc: Global) -> Result<Body, AllocError> {
-    let k = variable(alloc, 82, b"k")?;
-    let o = variable(alloc, 86, b"o")?;
-    let value = sum(alloc, k, 84, o)?;
-    arrow_body(alloc, 79, value, 87)
+fn constructor<R: Abort>(b: &Builder<R>) -> Member {
+    let k = b.parameter(ParameterKind::Plain {
+        kind: b.typed(at(44), "int"),
+        this_dot: Some(ThisDot {
+            this: at(48),
+            dot: at(52),
+        }),
+        name: b.name(at(53), "k"),
+    });
+    let kind = MemberKind::Constructor(Constructor::Generative {
+        constant: None,
+        name: ConstructorName {
+            class: b.name(at(42), "C"),
+            name: None,
+        },
+        parameters: b.parameters(at(43), k, at(54)),
+        initializers: None,
+        body: Body::Omitted(at(55)),
+    });
+    b.member(Modifier::Omitted, kind)
 }
 
 /// `int operator +(int o) => k + o;`
-fn plus_operator(alloc: Global) -> Result<Member, AllocError> {
-    let result_type = result_type(alloc, 57, b"int")?;
-    let parameters = operator_parameters(alloc)?;
-    let body = operator_body(alloc)?;
+fn plus_operator<R: Abort>(b: &Builder<R>) -> Member {
+    let o = b.plain_parameter(b.typed(at(72), "int"), b.name(at(76), "o"));
+    let sum = b.sum(b.variable(at(82), "k"), at(84), b.variable(at(86), "o"));
     let kind = MemberKind::Operator(OperatorMember {
         external: None,
-        result_type,
+        result_type: b.result(at(57), "int"),
         word: at(61),
         name: OperatorName::Sign(at(70), Sign::Plus),
-        parameters,
-        body,
+        parameters: b.parameters(at(71), o, at(77)),
+        body: b.arrow(at(79), sum, at(87)),
     });
-    Ok(member(alloc, Modifier::Omitted, kind))
+    b.member(Modifier::Omitted, kind)
 }
 
 /// `@d class C<A extends B> { f(x) => new List<int>() is int; }`
-pub fn class_that_keeps_its_types(alloc: Global) -> Result<Unit, AllocError> {
-    let metadata = metadata(alloc, 1, 2, b"d")?;
-    let c = name(alloc, 10, b"C")?;
-    let parameters = bounded_parameters(alloc)?;
-    let members = members_of_a_test(alloc)?;
+pub fn class_that_keeps_its_types<R: Abort>(b: &Builder<R>) -> Unit {
+    let x = b.plain_parameter(VariableKind::Omitted, b.name(at(29), "x"));
+    let body = b.arrow(at(32), type_test(b), at(57));
+    let f = function(
+        None,
+        b.name(at(27), "f"),
+        b.parameters(at(28), x, at(30)),
+        body,
+    );
     let class = Class {
         abstracted: None,
         word: at(4),
-        name: c,
-        parameters: Some(parameters),
-        kind: ClassKind::Declared(None, None, at(25), members, at(59)),
+        name: b.name(at(10), "C"),
+        parameters: Some(bounded_parameters(b)),
+        kind: ClassKind::Declared {
+            superclass: None,
+            interfaces: None,
+            opening: at(25),
+            members: b.one(b.member(Modifier::Omitted, MemberKind::Function(f))),
+            closing: at(59),
+        },
     };
-    let only = Decl {
-        metadata,
+    b.unit(b.one(Decl {
+        metadata: b.metadata(at(1), at(2), "d"),
         kind: DeclKind::Class(class),
-    };
-    unit_of_one(alloc, only)
+    }))
 }
 
 /// `<A extends B>`
-fn bounded_parameters(alloc: Global) -> Result<TypeParameters, AllocError> {
-    let a = name(alloc, 12, b"A")?;
-    let b = named_type(alloc, 22, b"B")?;
-    let mut items = Vec::new(alloc);
-    items.push(TypeParameter {
-        comma: None,
-        metadata: Vec::new(alloc),
-        name: a,
-        bound: Some(Bound {
-            word: at(14),
-            bound: b,
-        }),
-    })?;
-    Ok(TypeParameters {
+fn bounded_parameters<R: Abort>(b: &Builder<R>) -> TypeParameters {
+    TypeParameters {
         opening: at(11),
-        items,
+        items: b.one(TypeParameter {
+            comma: None,
+            metadata: Vec::new(b.alloc),
+            name: b.name(at(12), "A"),
+            bound: Some(Bound {
+                word: at(14),
+                bound: b.type_node(at(22), "B"),
+            }),
+        }),
         closing: at(23),
-    })
-}
-
-/// `f(x) => new List<int>() is int;`
-fn members_of_a_test(alloc: Global) -> Result<Vec<Member>, AllocError> {
-    let f = name(alloc, 27, b"f")?;
-    let x = name(alloc, 29, b"x")?;
-    let only = parameter(alloc, ParameterKind::Plain(VariableKind::Omitted, None, x));
-    let parameters = parameters(alloc, 28, only, 30)?;
-    let value = type_test(alloc)?;
-    let body = arrow_body(alloc, 32, value, 57)?;
-    let kind = MemberKind::Function(function(None, f, parameters, body));
-    let mut members = Vec::new(alloc);
-    members.push(member(alloc, Modifier::Omitted, kind))?;
-    Ok(members)
-}
-
-/// `List<int>`
-fn list_type(alloc: Global) -> Result<TypeNode, AllocError> {
-    let list = name(alloc, 39, b"List")?;
-    let int = named_type(alloc, 44, b"int")?;
-    let arguments = type_arguments(alloc, 43, int, 47)?;
-    Ok(TypeNode::Named(list, None, arguments))
+    }
 }
 
 /// `new List<int>() is int`
-fn type_test(alloc: Global) -> Result<Expr, AllocError> {
-    let of = list_type(alloc)?;
-    let arguments = Arguments {
-        opening: at(48),
-        items: Vec::new(alloc),
-        closing: at(49),
-    };
-    let made = Operand::Primary(Primary::New(at(35), of, None, arguments));
-    let int = named_type(alloc, 54, b"int")?;
-    let test = is_type(alloc, made, at(51), None, int)?;
-    Ok(plain(alloc, test))
+fn type_test<R: Abort>(b: &Builder<R>) -> Expr {
+    let created = Operand::Primary(Primary::New {
+        creation: Creation::New(at(35)),
+        class: list_type(b),
+        constructor: None,
+        arguments: Arguments {
+            opening: at(48),
+            items: Vec::new(b.alloc),
+            closing: at(49),
+        },
+    });
+    let int = b.type_node(at(54), "int");
+    b.plain(is_type(b.alloc, created, at(51), None, int).expect(b.rt, "out of memory"))
+}
+
+/// `List<int>`
+fn list_type<R: Abort>(b: &Builder<R>) -> TypeNode {
+    TypeNode::Named {
+        name: b.name(at(39), "List"),
+        member: None,
+        arguments: TypeArguments::Listed {
+            opening: at(43),
+            arguments: b.one(TypeArgument {
+                comma: None,
+                argument: b.type_node(at(44), "int"),
+            }),
+            closing: at(47),
+        },
+    }
 }

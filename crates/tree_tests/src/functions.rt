@@ -1,175 +1,125 @@
 // Units of functions: with parameters of each kind, beside an accessor, and with statements.
-use crate::declaration::{
-    arrow_body, declared, function, metadata, parameter, parameters, unit_of_one, unit_of_two,
-    variables,
-};
-use crate::expression::{arguments, assigned, call, integer, plain, string, variable};
-use crate::leaf::{at, final_typed, name, result_type, typed};
-use dart_parts::make::{for_in, given};
+use crate::builder::{Builder, at, function};
+use dart_node::make::expression::given;
+use dart_node::make::statement::for_in;
 use dart_tree::declaration::{Accessor, AccessorKind, DeclKind};
-use dart_tree::expression::Value;
+use dart_tree::expression::{Atom, Operand, Primary, Selector};
 use dart_tree::identifier::Identifier;
 use dart_tree::parameter::{
     BracketKind, Brackets, Parameter, ParameterKind, Parameters, VariableKind,
 };
-use dart_tree::statement::{Block, Body, Function, Stmt};
+use dart_tree::statement::{Block, Body, Stmt};
 use dart_tree::unit::Unit;
-use std::alloc::{AllocError, Global};
+use std::process::Abort;
 
 /// `f(g(String s), [int n = 1]) => g('a');`
-pub fn function_of_a_function(alloc: Global) -> Result<Unit, AllocError> {
-    let f = name(alloc, 1, b"f")?;
-    let parameters = function_and_optional(alloc)?;
-    let handed = string(alloc, 34, b"'a'")?;
-    let arguments = arguments(alloc, 33, handed, 37)?;
-    let value = call(alloc, 32, b"g", arguments)?;
-    let body = arrow_body(alloc, 29, value, 38)?;
-    let kind = DeclKind::Function(function(None, f, parameters, body));
-    unit_of_one(alloc, declared(alloc, kind))
+pub fn function_of_a_function<R: Abort>(b: &Builder<R>) -> Unit {
+    let call = Selector::Call(b.arguments(at(33), b.string(at(34), "'a'"), at(37)));
+    let called = b.plain(Operand::Postfix {
+        primary: Primary::Atom(Atom::Name(b.name(at(32), "g"))),
+        selectors: b.one(call),
+        operator: None,
+    });
+    let body = b.arrow(at(29), called, at(38));
+    let f = function(None, b.name(at(1), "f"), function_and_optional(b), body);
+    b.unit(b.one(b.declared(DeclKind::Function(f))))
 }
 
 /// `(g(String s), [int n = 1])`
-fn function_and_optional(alloc: Global) -> Result<Parameters, AllocError> {
-    let g = function_parameter(alloc)?;
-    let n = optional_parameter(alloc)?;
-    let mut required = Vec::new(alloc);
-    required.push(g)?;
-    let mut optional = Vec::new(alloc);
-    optional.push(n)?;
-    Ok(Parameters {
+fn function_and_optional<R: Abort>(b: &Builder<R>) -> Parameters {
+    let n = Parameter {
+        value: b.assigned(at(23), b.integer(at(25), "1")),
+        ..b.plain_parameter(b.typed(at(17), "int"), b.name(at(21), "n"))
+    };
+    Parameters {
         opening: at(2),
-        required,
+        required: b.one(function_parameter(b)),
         brackets: Some(Brackets {
             comma: Some(at(14)),
             kind: BracketKind::Square,
             opening: at(16),
             closing: at(26),
         }),
-        optional,
+        optional: b.one(n),
         closing: at(27),
-    })
+    }
 }
 
 /// `g(String s)`
-fn function_parameter(alloc: Global) -> Result<Parameter, AllocError> {
-    let kind = typed(alloc, 5, b"String")?;
-    let s = name(alloc, 12, b"s")?;
-    let only = parameter(alloc, ParameterKind::Plain(kind, None, s));
-    let of = parameters(alloc, 4, only, 13)?;
-    let g = name(alloc, 3, b"g")?;
-    Ok(parameter(alloc, ParameterKind::Function(None, None, g, of)))
-}
-
-/// `int n = 1`
-fn optional_parameter(alloc: Global) -> Result<Parameter, AllocError> {
-    let kind = typed(alloc, 17, b"int")?;
-    let n = name(alloc, 21, b"n")?;
-    let one = integer(alloc, 25, b"1")?;
-    let value = assigned(alloc, 23, one)?;
-    Ok(Parameter {
-        comma: None,
-        metadata: Vec::new(alloc),
-        kind: ParameterKind::Plain(kind, None, n),
-        value,
+fn function_parameter<R: Abort>(b: &Builder<R>) -> Parameter {
+    let s = b.plain_parameter(b.typed(at(5), "String"), b.name(at(12), "s"));
+    b.parameter(ParameterKind::Function {
+        result_type: None,
+        this_dot: None,
+        name: b.name(at(3), "g"),
+        parameters: b.parameters(at(4), s, at(13)),
     })
 }
 
 /// `int get(x) => 1; int get get => 2;`
-pub fn function_and_getter(alloc: Global) -> Result<Unit, AllocError> {
-    let get = function_get(alloc)?;
-    let getter = getter_get(alloc)?;
-    unit_of_two(alloc, DeclKind::Function(get), DeclKind::Accessor(getter))
-}
-
-/// `int get(x) => 1;`
-fn function_get(alloc: Global) -> Result<Function, AllocError> {
-    let result_type = result_type(alloc, 1, b"int")?;
-    let x = name(alloc, 9, b"x")?;
-    let only = parameter(alloc, ParameterKind::Plain(VariableKind::Omitted, None, x));
-    let parameters = parameters(alloc, 8, only, 10)?;
-    let one = integer(alloc, 15, b"1")?;
-    let body = arrow_body(alloc, 12, one, 16)?;
-    Ok(function(result_type, Identifier::Get(at(5)), parameters, body))
-}
-
-/// `int get get => 2;`
-fn getter_get(alloc: Global) -> Result<Accessor, AllocError> {
-    let result_type = result_type(alloc, 18, b"int")?;
-    let two = integer(alloc, 33, b"2")?;
-    let body = arrow_body(alloc, 30, two, 34)?;
-    Ok(Accessor {
+pub fn function_and_getter<R: Abort>(b: &Builder<R>) -> Unit {
+    let x = b.plain_parameter(VariableKind::Omitted, b.name(at(9), "x"));
+    let get = function(
+        b.result(at(1), "int"),
+        Identifier::Get(at(5)),
+        b.parameters(at(8), x, at(10)),
+        b.arrow(at(12), b.integer(at(15), "1"), at(16)),
+    );
+    let getter = Accessor {
         external: None,
-        result_type,
+        result_type: b.result(at(18), "int"),
         kind: AccessorKind::Get(at(22), Identifier::Get(at(26))),
-        body,
-    })
+        body: b.arrow(at(30), b.integer(at(33), "2"), at(34)),
+    };
+    b.unit(b.two(
+        b.declared(DeclKind::Function(get)),
+        b.declared(DeclKind::Accessor(getter)),
+    ))
 }
 
 /// `f(@d int x) { final String y = x; for (int i in y) i; }`
-pub fn function_of_statements(alloc: Global) -> Result<Unit, AllocError> {
-    let f = name(alloc, 1, b"f")?;
-    let only = annotated_parameter(alloc)?;
-    let parameters = parameters(alloc, 2, only, 11)?;
-    let local = local_variable(alloc)?;
-    let looped = loop_over_a_value(alloc)?;
-    let mut statements = Vec::new(alloc);
-    statements.push(local)?;
-    statements.push(looped)?;
+pub fn function_of_statements<R: Abort>(b: &Builder<R>) -> Unit {
+    let x = Parameter {
+        metadata: b.metadata(at(3), at(4), "d"),
+        ..b.plain_parameter(b.typed(at(6), "int"), b.name(at(10), "x"))
+    };
     let body = Body::Block(Block {
         opening: at(13),
-        statements,
+        statements: b.two(local_variable(b), loop_over_a_value(b)),
         closing: at(55),
     });
-    let kind = DeclKind::Function(function(None, f, parameters, body));
-    unit_of_one(alloc, declared(alloc, kind))
-}
-
-/// `@d int x`
-fn annotated_parameter(alloc: Global) -> Result<Parameter, AllocError> {
-    let metadata = metadata(alloc, 3, 4, b"d")?;
-    let kind = typed(alloc, 6, b"int")?;
-    let x = name(alloc, 10, b"x")?;
-    Ok(Parameter {
-        comma: None,
-        metadata,
-        kind: ParameterKind::Plain(kind, None, x),
-        value: Value::Omitted,
-    })
+    let f = function(
+        None,
+        b.name(at(1), "f"),
+        b.parameters(at(2), x, at(11)),
+        body,
+    );
+    b.unit(b.one(b.declared(DeclKind::Function(f))))
 }
 
 /// `final String y = x;`
-fn local_variable(alloc: Global) -> Result<Stmt, AllocError> {
-    let kind = final_typed(alloc, 15, 21, b"String")?;
-    let y = name(alloc, 28, b"y")?;
-    let x = variable(alloc, 32, b"x")?;
-    let value = assigned(alloc, 30, plain(alloc, x))?;
-    Ok(Stmt::Variables(variables(alloc, kind, y, value, 33)))
-}
-
-/// `i;`
-fn loop_body(alloc: Global) -> Result<Stmt, AllocError> {
-    let i = variable(alloc, 52, b"i")?;
-    let value = given(alloc, None, plain(alloc, i))?;
-    Ok(Stmt::Expression(value, at(53)))
+fn local_variable<R: Abort>(b: &Builder<R>) -> Stmt {
+    let kind = VariableKind::Final(at(15), Some(b.type_node(at(21), "String")));
+    let value = b.assigned(at(30), b.plain(b.variable(at(32), "x")));
+    Stmt::Variables(b.variables(kind, b.name(at(28), "y"), value, at(33)))
 }
 
 /// `for (int i in y) i;`
-fn loop_over_a_value(alloc: Global) -> Result<Stmt, AllocError> {
-    let kind = typed(alloc, 40, b"int")?;
-    let i = name(alloc, 44, b"i")?;
-    let y = variable(alloc, 49, b"y")?;
-    let body = loop_body(alloc)?;
-    let iterated = plain(alloc, y);
+fn loop_over_a_value<R: Abort>(b: &Builder<R>) -> Stmt {
+    let value = given(b.alloc, None, b.plain(b.variable(at(52), "i"))).expect(
+        b.rt,
+        "out of memory",
+    );
     let looped = for_in(
-        alloc,
+        b.alloc,
         at(35),
         at(39),
-        kind,
-        i,
+        b.typed(at(40), "int"),
+        b.name(at(44), "i"),
         at(46),
-        iterated,
+        b.plain(b.variable(at(49), "y")),
         at(50),
-        body,
-    )?;
-    Ok(Stmt::Loop(looped))
+        Stmt::Expression(value, at(53)),
+    );
+    Stmt::Loop(looped.expect(b.rt, "out of memory"))
 }

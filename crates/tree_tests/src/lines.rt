@@ -1,62 +1,65 @@
 // A unit of five lines, with a type that goes over two of them.
-use crate::declaration::{declared, function, unit_of_one};
-use crate::expression::plain;
-use dart_base::bytes::Bytes;
+use crate::builder::{Builder, function, on};
 use dart_base::place::Place;
-use dart_parts::make::{given, throw};
-use dart_token::sign::Sign;
+use dart_node::make::expression::{given, throw};
 use dart_tree::declaration::DeclKind;
-use dart_tree::expression::{Arguments, Expr, Operand, PieceKind, Primary, StringPiece, Value};
-use dart_tree::identifier::Identifier;
-use dart_tree::operator::Operator;
+use dart_tree::expression::{Arguments, Creation, Expr, Operand, Primary};
 use dart_tree::parameter::{Parameters, VariableKind};
-use dart_tree::statement::{Block, Body, Stmt, Variables};
+use dart_tree::statement::{Block, Body, Stmt};
 use dart_tree::types::{TypeArgument, TypeArguments, TypeNode};
 use dart_tree::unit::Unit;
-use std::alloc::{AllocError, Global};
+use std::process::Abort;
 
-/// The place of a column of a line, both counted from 1.
-fn on(line: u32, column: u32) -> Place {
-    Place {
-        unit: 0,
-        line,
-        column,
-    }
+/// `main() {`, `  Map<String,`, `      int> m = new Map<String, int>();`, `  throw 'x';` and `}`, a line each
+pub fn main_of_five_lines<R: Abort>(b: &Builder<R>) -> Unit {
+    let parameters = Parameters {
+        opening: on(1, 5),
+        required: Vec::new(b.alloc),
+        brackets: None,
+        optional: Vec::new(b.alloc),
+        closing: on(1, 6),
+    };
+    let body = Body::Block(Block {
+        opening: on(1, 8),
+        statements: b.two(map_variable(b), throw_statement(b)),
+        closing: on(5, 1),
+    });
+    let main = function(None, b.name(on(1, 1), "main"), parameters, body);
+    b.unit(b.one(b.declared(DeclKind::Function(main))))
 }
 
-/// `a`
-fn named(alloc: Global, place: Place, text: &[u8]) -> Result<Identifier, AllocError> {
-    let text = Bytes::from_slice(alloc, text)?;
-    Ok(Identifier::Name(place, text))
-}
-
-/// `A` among type arguments, with the comma before it
-fn argument(
-    alloc: Global,
-    comma: Option<Place>,
-    place: Place,
-    text: &[u8],
-) -> Result<TypeArgument, AllocError> {
-    let of = named(alloc, place, text)?;
-    Ok(TypeArgument {
-        comma,
-        argument: TypeNode::Named(of, None, TypeArguments::Omitted),
-    })
+/// `Map<String, int> m = new Map<String, int>();` in lines 2 and 3
+fn map_variable<R: Abort>(b: &Builder<R>) -> Stmt {
+    let places = [on(2, 3), on(2, 6), on(2, 7), on(2, 13), on(3, 7), on(3, 10)];
+    let kind = VariableKind::Typed(map_type(b, places));
+    let value = b.assigned(on(3, 14), new_map(b));
+    Stmt::Variables(b.variables(kind, b.name(on(3, 12), "m"), value, on(3, 38)))
 }
 
 /// `Map<String, int>` with the places of its six tokens
-fn map_type(alloc: Global, places: [Place; 6]) -> Result<TypeNode, AllocError> {
+fn map_type<R: Abort>(b: &Builder<R>, places: [Place; 6]) -> TypeNode {
     let [map, opening, string, comma, int, closing] = places;
-    let map = named(alloc, map, b"Map")?;
-    let mut listed = Vec::new(alloc);
-    listed.push(argument(alloc, None, string, b"String")?)?;
-    listed.push(argument(alloc, Some(comma), int, b"int")?)?;
-    let arguments = TypeArguments::Listed(opening, listed, closing);
-    Ok(TypeNode::Named(map, None, arguments))
+    let string = TypeArgument {
+        comma: None,
+        argument: b.type_node(string, "String"),
+    };
+    let int = TypeArgument {
+        comma: Some(comma),
+        argument: b.type_node(int, "int"),
+    };
+    TypeNode::Named {
+        name: b.name(map, "Map"),
+        member: None,
+        arguments: TypeArguments::Listed {
+            opening,
+            arguments: b.two(string, int),
+            closing,
+        },
+    }
 }
 
 /// `new Map<String, int>()` in line 3
-fn new_map(alloc: Global) -> Result<Expr, AllocError> {
+fn new_map<R: Abort>(b: &Builder<R>) -> Expr {
     let places = [
         on(3, 20),
         on(3, 23),
@@ -65,67 +68,21 @@ fn new_map(alloc: Global) -> Result<Expr, AllocError> {
         on(3, 32),
         on(3, 35),
     ];
-    let of = map_type(alloc, places)?;
-    let arguments = Arguments {
-        opening: on(3, 36),
-        items: Vec::new(alloc),
-        closing: on(3, 37),
-    };
-    let made = Primary::New(on(3, 16), of, None, arguments);
-    Ok(plain(alloc, Operand::Primary(made)))
-}
-
-/// `Map<String, int> m = new Map<String, int>();` in lines 2 and 3
-fn map_variable(alloc: Global) -> Result<Stmt, AllocError> {
-    let places = [on(2, 3), on(2, 6), on(2, 7), on(2, 13), on(3, 7), on(3, 10)];
-    let kind = VariableKind::Typed(map_type(alloc, places)?);
-    let m = named(alloc, on(3, 12), b"m")?;
-    let made = new_map(alloc)?;
-    let equals = Operator::Sign(on(3, 14), Sign::Assign);
-    let value = given(alloc, Some(equals), made)?;
-    Ok(Stmt::Variables(Variables {
-        kind,
-        name: m,
-        value,
-        more: Vec::new(alloc),
-        semicolon: on(3, 38),
+    b.plain(Operand::Primary(Primary::New {
+        creation: Creation::New(on(3, 16)),
+        class: map_type(b, places),
+        constructor: None,
+        arguments: Arguments {
+            opening: on(3, 36),
+            items: Vec::new(b.alloc),
+            closing: on(3, 37),
+        },
     }))
 }
 
 /// `throw 'x';` in line 4
-fn throw_statement(alloc: Global) -> Result<Stmt, AllocError> {
-    let text = Bytes::from_slice(alloc, b"'x'")?;
-    let mut pieces = Vec::new(alloc);
-    pieces.push(StringPiece {
-        kind: PieceKind::Whole,
-        place: on(4, 9),
-        text,
-        value: Value::Omitted,
-    })?;
-    let operand = Operand::Primary(Primary::Text(pieces));
-    let thrown = throw(alloc, on(4, 3), plain(alloc, operand))?;
-    let value = given(alloc, None, thrown)?;
-    Ok(Stmt::Expression(value, on(4, 12)))
-}
-
-/// `main() {`, `  Map<String,`, `      int> m = new Map<String, int>();`, `  throw 'x';` and `}`, a line each
-pub fn main_of_five_lines(alloc: Global) -> Result<Unit, AllocError> {
-    let main = named(alloc, on(1, 1), b"main")?;
-    let parameters = Parameters {
-        opening: on(1, 5),
-        required: Vec::new(alloc),
-        brackets: None,
-        optional: Vec::new(alloc),
-        closing: on(1, 6),
-    };
-    let mut statements = Vec::new(alloc);
-    statements.push(map_variable(alloc)?)?;
-    statements.push(throw_statement(alloc)?)?;
-    let body = Body::Block(Block {
-        opening: on(1, 8),
-        statements,
-        closing: on(5, 1),
-    });
-    let kind = DeclKind::Function(function(None, main, parameters, body));
-    unit_of_one(alloc, declared(alloc, kind))
+fn throw_statement<R: Abort>(b: &Builder<R>) -> Stmt {
+    let thrown = throw(b.alloc, on(4, 3), b.string(on(4, 9), "'x'")).expect(b.rt, "out of memory");
+    let value = given(b.alloc, None, thrown).expect(b.rt, "out of memory");
+    Stmt::Expression(value, on(4, 12))
 }

@@ -1,13 +1,15 @@
 // The tokens of the trees, before and after erasure.
+use crate::builder::Builder;
 use crate::classes::{class_of_typed_members, class_that_keeps_its_types};
+use crate::constants::enum_and_constants;
 use crate::functions::{function_and_getter, function_of_a_function, function_of_statements};
 use crate::lines::main_of_five_lines;
 use crate::variables::{list_and_map, typed_variable_and_function};
 use dart_base::bytes::Bytes;
 use dart_erase::unit::erase;
-use dart_print::tokens;
 use dart_token::token::Token;
 use dart_tree::unit::Unit;
+use dart_unparse::tokens;
 use std::alloc::{AllocError, Global};
 use std::process::Abort;
 use std::test::Fail;
@@ -80,7 +82,7 @@ fn check_lines(
 #[test]
 fn variable_and_function_lose_their_types(rt: HostRuntime) -> Result<(), Fail> {
     let alloc = rt.alloc();
-    let unit = typed_variable_and_function(alloc)?;
+    let unit = typed_variable_and_function(&Builder { rt: &rt, alloc });
     check_tokens(
         &rt,
         alloc,
@@ -100,7 +102,7 @@ fn variable_and_function_lose_their_types(rt: HostRuntime) -> Result<(), Fail> {
 #[test]
 fn members_lose_their_types(rt: HostRuntime) -> Result<(), Fail> {
     let alloc = rt.alloc();
-    let unit = class_of_typed_members(alloc)?;
+    let unit = class_of_typed_members(&Builder { rt: &rt, alloc });
     check_tokens(
         &rt,
         alloc,
@@ -124,9 +126,35 @@ fn members_lose_their_types(rt: HostRuntime) -> Result<(), Fail> {
 }
 
 #[test]
+fn enums_and_constants_stay(rt: HostRuntime) -> Result<(), Fail> {
+    let alloc = rt.alloc();
+    let unit = enum_and_constants(&Builder { rt: &rt, alloc });
+    check_tokens(
+        &rt,
+        alloc,
+        &unit,
+        "enum E { a , b , } const int n = 1 ; class C { const C ( int k ) ; } var c = const C ( 1 ) ;",
+        &[
+            1, 6, 8, 10, 11, 13, 14, 16, 18, 24, 28, 30, 32, 33, 35, 41, 43, 45, 51, 52, 53, 57,
+            58, 59, 61, 63, 67, 69, 71, 77, 78, 79, 80, 81,
+        ],
+    )?;
+    check_tokens(
+        &rt,
+        alloc,
+        &erase(alloc, &unit)?,
+        "enum E { a , b , } const n = 1 ; class C { const C ( k ) ; } var c = const C ( 1 ) ;",
+        &[
+            1, 6, 8, 10, 11, 13, 14, 16, 18, 28, 30, 32, 33, 35, 41, 43, 45, 51, 52, 57, 58, 59,
+            61, 63, 67, 69, 71, 77, 78, 79, 80, 81,
+        ],
+    )
+}
+
+#[test]
 fn function_parameter_loses_its_parameters(rt: HostRuntime) -> Result<(), Fail> {
     let alloc = rt.alloc();
-    let unit = function_of_a_function(alloc)?;
+    let unit = function_of_a_function(&Builder { rt: &rt, alloc });
     check_tokens(
         &rt,
         alloc,
@@ -148,7 +176,7 @@ fn function_parameter_loses_its_parameters(rt: HostRuntime) -> Result<(), Fail> 
 #[test]
 fn getter_loses_its_type(rt: HostRuntime) -> Result<(), Fail> {
     let alloc = rt.alloc();
-    let unit = function_and_getter(alloc)?;
+    let unit = function_and_getter(&Builder { rt: &rt, alloc });
     check_tokens(
         &rt,
         alloc,
@@ -168,7 +196,7 @@ fn getter_loses_its_type(rt: HostRuntime) -> Result<(), Fail> {
 #[test]
 fn literals_keep_their_last_comma(rt: HostRuntime) -> Result<(), Fail> {
     let alloc = rt.alloc();
-    let unit = list_and_map(alloc)?;
+    let unit = list_and_map(&Builder { rt: &rt, alloc });
     let line = "var l = [ 1 , 2 , ] ; var m = { 'a' : 1 , } ;";
     let places = [
         1, 5, 7, 9, 10, 11, 13, 14, 15, 16, 18, 22, 24, 26, 27, 30, 32, 33, 34, 35,
@@ -180,7 +208,7 @@ fn literals_keep_their_last_comma(rt: HostRuntime) -> Result<(), Fail> {
 #[test]
 fn metadata_bounds_and_tests_keep_their_types(rt: HostRuntime) -> Result<(), Fail> {
     let alloc = rt.alloc();
-    let unit = class_that_keeps_its_types(alloc)?;
+    let unit = class_that_keeps_its_types(&Builder { rt: &rt, alloc });
     let line = "@ d class C < A extends B > { f ( x ) => new List < int > ( ) is int ; }";
     let places = [
         1, 2, 4, 10, 11, 12, 14, 22, 23, 25, 27, 28, 29, 30, 32, 35, 39, 43, 44, 47, 48, 49, 51,
@@ -193,7 +221,7 @@ fn metadata_bounds_and_tests_keep_their_types(rt: HostRuntime) -> Result<(), Fai
 #[test]
 fn metadata_stays_where_a_type_goes(rt: HostRuntime) -> Result<(), Fail> {
     let alloc = rt.alloc();
-    let unit = function_of_statements(alloc)?;
+    let unit = function_of_statements(&Builder { rt: &rt, alloc });
     check_tokens(
         &rt,
         alloc,
@@ -218,7 +246,7 @@ fn metadata_stays_where_a_type_goes(rt: HostRuntime) -> Result<(), Fail> {
 #[test]
 fn kept_tokens_keep_their_lines(rt: HostRuntime) -> Result<(), Fail> {
     let alloc = rt.alloc();
-    let unit = main_of_five_lines(alloc)?;
+    let unit = main_of_five_lines(&Builder { rt: &rt, alloc });
     check_lines(
         &rt,
         alloc,
