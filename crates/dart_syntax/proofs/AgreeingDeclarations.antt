@@ -16,17 +16,18 @@ use Rattle.dart_tree.specs.Tree.{Metadata}
 use Rattle.dart_tree.specs.Tokens.{body_tokens, function_tokens, metadata_tokens}
 use Rattle.dart_tree.specs.Unit as d
 use Rattle.dart_tree.specs.Unit.{Bound, TypeClause, InitKind, MemberKind}
-use Rattle.dart_tree.specs.UnitTokens.{clause_tokens, bound_tokens, type_parameter_tokens, type_parameters_tokens, superclass_tokens, alias_tokens, accessor_kind_tokens, accessor_tokens, operator_name_tokens, operator_member_tokens, constructor_name_tokens, init_kind_tokens, init_tokens, initializers_tokens, constructor_tokens, modifier_tokens, member_kind_tokens, member_tokens, class_kind_tokens, class_tokens, decl_kind_tokens, decl_tokens}
+use Rattle.dart_tree.specs.UnitTokens.{clause_tokens, bound_tokens, type_parameter_tokens, type_parameters_tokens, superclass_tokens, alias_tokens, accessor_kind_tokens, accessor_tokens, operator_name_tokens, operator_member_tokens, constructor_name_tokens, init_kind_tokens, init_tokens, initializers_tokens, constructor_tokens, modifier_tokens, member_kind_tokens, member_tokens, class_kind_tokens, class_tokens, enum_tokens, decl_kind_tokens, decl_tokens}
 use Rattle.dart_syntax.specs.Phrases.{Phrase, exactly}
 use Rattle.dart_syntax.specs.Leaves.{sign_tokens, word_tokens, plain_identifier}
 use Rattle.dart_syntax.specs.Types.{result_leaves_name}
 use Rattle.dart_syntax.specs.Statements.{StmtNodes, Within, within}
-use Rattle.dart_syntax.specs.Declarations.{more_type_parameters, more_inits, text_of, target_takes_names, bound_over, type_parameters_over, mixins_over, interfaces_over, superclass_over, alias_over, accessor_kind_over, accessor_over, signs_of, operator_signs, operator_name_over, operator_member_over, constructor_name_over, init_over, init_within, generative_over, redirecting_over, factory_over, constructor_over, constructor_within, external_or_none, without_external, function_within, accessor_within, alias_within, callable_within, variables_within, member_within, class_kind_within, class_over, class_within, decl_within}
+use Rattle.dart_syntax.specs.Declarations.{more_type_parameters, more_inits, text_of, target_takes_names, bound_over, type_parameters_over, mixins_over, interfaces_over, superclass_over, alias_over, accessor_kind_over, accessor_over, signs_of, operator_signs, operator_name_over, operator_member_over, constructor_name_over, init_over, init_within, initializers_over, generative_over, constant_over, redirecting_over, factory_over, constructor_over, constructor_within, external_or_none, without_external, function_within, accessor_within, alias_within, callable_within, variables_within, member_within, class_kind_within, class_over, class_within, enum_within, decl_within}
 use Rattle.dart_syntax.specs.Agreement.{Agrees, StmtsAgree, WithinAgrees, DeclarationsAgree}
 use Rattle.dart_syntax.proofs.Agreeing.{leaf_agrees, exactly_agrees, no_room_agrees, seq_agrees, seq_if_agrees, seq_by_agrees, opt_agrees, many_agrees, either_agrees, rather_agrees, made_agrees, such_agrees}
 use Rattle.dart_syntax.proofs.AgreeingTypes.{sign_agrees, word_agrees, named_agrees, identifier_agrees, dot_name_agrees, commas_agree, types_agree, result_agrees}
-use Rattle.dart_syntax.proofs.AgreeingExpressions.{said_cascades}
-use Rattle.dart_syntax.proofs.AgreeingStatements.{said_word, metadata_agrees, this_dot_agrees, body_agrees, function_agrees}
+use Rattle.dart_syntax.proofs.AgreeingExpressions.{said_sign, said_cascades}
+use Rattle.dart_syntax.proofs.AgreeingLevels.{cascaded_agrees}
+use Rattle.dart_syntax.proofs.AgreeingStatements.{said_word, comma_name_agrees, metadata_agrees, this_dot_agrees, body_agrees, function_agrees}
 use Rattle.dart_syntax.proofs.AgreeingStages.{within_agrees}
 
 -- ---- the lists of the trees
@@ -98,18 +99,26 @@ module _ {inner : StmtNodes} (I : StmtsAgree inner) where
 init_agrees : {inner : Within} → WithinAgrees inner → Agrees init_kind_tokens (init_over inner)
 init_agrees I = either_agrees
     (made_agrees init_kind_tokens _ (seq_agrees (word_agrees w.Super) (seq_agrees (opt_agrees dot_name_agrees) I.nodes.expr_nodes.arguments)) (λ x fits. refl))
-    (made_agrees init_kind_tokens _ (seq_agrees (opt_agrees (this_dot_agrees I.nodes.expr_nodes)) (seq_agrees identifier_agrees (seq_agrees (sign_agrees s.Assign) (seq_agrees I.levels.conditional (many_agrees I.nodes.expr_nodes.cascade))))) (λ x fits. simp said_cascades))
+    (made_agrees init_kind_tokens _ (seq_agrees (opt_agrees (this_dot_agrees I.nodes.expr_nodes)) (seq_agrees identifier_agrees (seq_agrees (sign_agrees s.Assign) (cascaded_agrees I.levels I.nodes.expr_nodes)))) (λ x fits. simp said_cascades))
 
 inits_agree : (n : ℕ) → Agrees init_kind_tokens (init_within n)
 inits_agree zero = no_room_agrees init_kind_tokens
 inits_agree (suc n) = init_agrees (within_agrees n)
 
 module _ {inner : StmtNodes} (I : StmtsAgree inner) {init : Phrase InitKind} (N : Agrees init_kind_tokens init) (class : List ℕ) where
+  initializers_agree : Agrees initializers_tokens (initializers_over inner init class)
+  initializers_agree = made_agrees initializers_tokens _ (seq_agrees (sign_agrees s.Colon) (commas_agree N)) (λ x fits. simp said_inits)
+
   generative_agrees : Agrees constructor_tokens (generative_over inner init class)
   unfolding body_tokens
   generative_agrees = made_agrees constructor_tokens _ (seq_agrees (constructor_name_agrees I class) (seq_agrees I.expr_nodes.parameters (seq_agrees
-      (opt_agrees (made_agrees initializers_tokens _ (seq_agrees (sign_agrees s.Colon) (commas_agree N)) (λ x fits. simp said_inits)))
+      (opt_agrees initializers_agree)
       (either_agrees (made_agrees body_tokens t.block_body I.expr_nodes.block (λ x fits. refl)) (made_agrees body_tokens t.no_body (sign_agrees s.Semicolon) (λ x fits. refl))))))
+      (λ x fits. refl)
+
+  constant_agrees : Agrees constructor_tokens (constant_over inner init class)
+  unfolding body_tokens
+  constant_agrees = made_agrees constructor_tokens _ (seq_agrees (word_agrees w.Const) (seq_agrees (constructor_name_agrees I class) (seq_agrees I.expr_nodes.parameters (seq_agrees (opt_agrees initializers_agree) (sign_agrees s.Semicolon)))))
       (λ x fits. refl)
 
   redirecting_agrees : Agrees constructor_tokens (redirecting_over inner init class)
@@ -125,7 +134,7 @@ module _ {inner : StmtNodes} (I : StmtsAgree inner) {init : Phrase InitKind} (N 
       (λ x fits. simp said_word))
 
   constructor_agrees : Agrees constructor_tokens (constructor_over inner init class)
-  constructor_agrees = either_agrees generative_agrees (either_agrees redirecting_agrees factory_agrees)
+  constructor_agrees = either_agrees generative_agrees (either_agrees constant_agrees (either_agrees redirecting_agrees factory_agrees))
 
 pub constructors_agree : (class : List ℕ) (n : ℕ) → Agrees constructor_tokens (constructor_within class n)
 constructors_agree class zero = no_room_agrees constructor_tokens
@@ -187,13 +196,19 @@ pub classes_agree : (n : ℕ) → Agrees class_tokens (class_within n)
 classes_agree zero = no_room_agrees class_tokens
 classes_agree (suc n) = class_agrees n
 
+pub enums_agree : (n : ℕ) → Agrees enum_tokens (enum_within n)
+enums_agree zero = no_room_agrees enum_tokens
+enums_agree (suc n) = made_agrees enum_tokens _ (seq_agrees (word_agrees w.Enum) (seq_agrees plain_identifier_agrees (seq_agrees (sign_agrees s.LeftBrace) (seq_agrees identifier_agrees (seq_agrees (many_agrees comma_name_agrees) (seq_agrees (opt_agrees (sign_agrees s.Comma)) (sign_agrees s.RightBrace)))))))
+    (λ x fits. simp said_sign)
+
 pub decl_agrees : (n : ℕ) → Agrees decl_tokens (decl_within n)
 decl_agrees n = made_agrees decl_tokens _ (seq_agrees (metadata_agrees (within_agrees n).nodes.expr_nodes)
     (either_agrees (made_agrees decl_kind_tokens d.class_decl (classes_agree n) (λ x fits. refl))
     (either_agrees (made_agrees decl_kind_tokens d.alias_decl (aliases_agree n) (λ x fits. refl))
     (either_agrees (made_agrees decl_kind_tokens d.function_decl (functions_agree external_agrees n) (λ x fits. refl))
     (either_agrees (made_agrees decl_kind_tokens d.accessor_decl (accessors_agree external_agrees n) (λ x fits. refl))
-    (made_agrees decl_kind_tokens d.variables_decl (within_agrees n).nodes.variables (λ x fits. refl))))))) (λ x fits. refl)
+    (either_agrees (made_agrees decl_kind_tokens d.variables_decl (within_agrees n).nodes.variables (λ x fits. refl))
+    (made_agrees decl_kind_tokens d.enum_decl (enums_agree n) (λ x fits. refl)))))))) (λ x fits. refl)
 
 pub declarations_agree : (n : ℕ) → DeclarationsAgree n
 declarations_agree n = record {
@@ -202,6 +217,7 @@ declarations_agree n = record {
   member = member_agrees n;
   constructor = λ class. constructors_agree class n;
   alias = aliases_agree n;
+  enum = enums_agree n;
   function = functions_agree external_agrees n;
   accessor = accessors_agree external_agrees n;
 }

@@ -1,6 +1,7 @@
 -- The levels of operators, and expressions over them, agree with their tokens.
-use Rattle.std.proofs.Common.{List, [], ◌∷◌, refl, append_assoc}
+use Rattle.std.proofs.Common.{ℕ, zero, suc, Bool, List, [], ◌∷◌, length, refl, append_assoc, flat_map}
 use Rattle.std.proofs.lemmas.List.{append-nil}
+use Rattle.grammar_laws.specs.Fronts.{both_spelling}
 use Rattle.dart_token.specs.declared.sign.Sign.{Sign}
 use Rattle.dart_token.specs.declared.sign.Sign.TheVariants as s
 use Rattle.dart_token.specs.declared.word.Word.TheVariants as w
@@ -8,20 +9,22 @@ use Rattle.dart_tree.specs.LeafTokens.{operator_tokens}
 use Rattle.dart_tree.specs.Tree as t
 use Rattle.dart_tree.specs.Tree.{Expr, Operand, Primary}
 use Rattle.dart_tree.specs.declared.operator.Operator.{Operator}
-use Rattle.dart_tree.specs.Tokens.{expr_tokens, operand_tokens, primary_tokens}
+use Rattle.dart_tree.specs.Tokens.{expr_tokens, operand_tokens, primary_tokens, selector_tokens}
 use Rattle.dart_syntax.specs.Phrases.{Phrase, made, such}
-use Rattle.dart_syntax.specs.Expressions.{ExprNodes, Levels, is_target, primary_assigns, ends_in_target, type_takes_names, expr_over, without_over, primary_of, prefixed, once, chain, shifting, postfix_over, target_of, unary_over, relational_over, conditional_over, levels_over, flat_levels}
-use Rattle.dart_syntax.specs.Agreement.{Agrees, ExprsAgree, LevelsAgree}
-use Rattle.dart_syntax.proofs.Agreeing.{seq_agrees, seq_if_agrees, opt_agrees, many_agrees, some_agrees, either_agrees, made_agrees, such_agrees}
-use Rattle.dart_syntax.proofs.AgreeingTypes.{sign_agrees, word_agrees, dot_name_agrees}
-use Rattle.dart_syntax.proofs.AgreeingExpressions.{atom_agrees, one_of_agrees, said_sign, said_selectors, said_cascades, said_tails, strings_agree, selector_agrees, assigning_agrees}
+use Rattle.dart_syntax.specs.Expressions.{ExprNodes, Levels, primary_assigns, ends_in_target, type_takes_names, cascaded_over, expr_over, without_over, primary_of, selected_over, prefixed, once, chain, shifting, postfix_over, target_of, unary_over, Row, chained, shifts, single, comparison, logical, choice, no_row, rows, row_at, row_over, rows_over, levels_over, flat_levels}
+use Rattle.dart_syntax.specs.Levels.{sign_level}
+use Rattle.dart_syntax.specs.Edges.{dots, question, compares, opens_dot, opens_nothing, leaves, leaves_less, primary_leaves, leaves_cascade}
+use Rattle.dart_syntax.specs.Agreement.{Agrees, ExprsAgree, LevelsAgree, section_tokens}
+use Rattle.dart_syntax.proofs.Agreeing.{exactly_agrees, no_room_agrees, seq_agrees, seq_if_agrees, opt_agrees, many_agrees, some_if_agrees, either_agrees, made_agrees, such_agrees}
+use Rattle.dart_syntax.proofs.AgreeingTypes.{sign_agrees, word_agrees, creation_agrees, dot_name_agrees}
+use Rattle.dart_syntax.proofs.AgreeingExpressions.{atom_agrees, one_of_agrees, said_sign, said_selectors, said_cascades, said_tails, strings_agree, member_agrees, bracketed_agrees, selector_agrees, assigning_agrees}
 
 pub primary_agrees : {here : ExprNodes} → ExprsAgree here → Agrees primary_tokens (primary_of here)
 unfolding primary_tokens
 primary_agrees H = either_agrees (made_agrees primary_tokens t.atom atom_agrees (λ x fits. refl))
     (either_agrees (made_agrees primary_tokens t.text (strings_agree H.expr) (λ x fits. refl))
     (either_agrees (made_agrees primary_tokens _ (seq_agrees (word_agrees w.Super) (selector_agrees H)) (λ x fits. refl))
-    (either_agrees (made_agrees primary_tokens _ (seq_agrees (word_agrees w.New) (such_agrees type_takes_names (seq_agrees H.type (seq_agrees (opt_agrees dot_name_agrees) H.arguments)))) (λ x fits. refl))
+    (either_agrees (made_agrees primary_tokens _ (seq_agrees creation_agrees (such_agrees type_takes_names (seq_agrees H.type (seq_agrees (opt_agrees dot_name_agrees) H.arguments)))) (λ x fits. refl))
     (either_agrees (made_agrees primary_tokens _ (seq_agrees (sign_agrees s.LeftParenthesis) (seq_agrees H.expr (sign_agrees s.RightParenthesis))) (λ x fits. refl))
     H.literal))))
 
@@ -32,13 +35,13 @@ module _ {operator : Phrase Operator} (O : Agrees operator_tokens operator) {ope
   unfolding operand_tokens
   prefixed_agrees = made_agrees operand_tokens _ (seq_agrees O P) (λ x fits. refl)
 
-  pub once_agrees : {first : Phrase Operand} → Agrees operand_tokens first → Agrees operand_tokens (once first operator operand)
+  pub once_agrees : (may : Operand → Bool) {first : Phrase Operand} → Agrees operand_tokens first → Agrees operand_tokens (once may first operator operand)
   unfolding operand_tokens
-  once_agrees F = made_agrees operand_tokens _ (seq_agrees F (seq_agrees O P)) (λ x fits. simp append-nil)
+  once_agrees may F = made_agrees operand_tokens _ (seq_if_agrees F (seq_agrees O P) may) (λ x fits. simp append-nil)
 
-  pub chain_agrees : {first : Phrase Operand} → Agrees operand_tokens first → Agrees operand_tokens (chain first operator operand)
+  pub chain_agrees : (next : ℕ) {first : Phrase Operand} → Agrees operand_tokens first → Agrees operand_tokens (chain next first operator operand)
   unfolding operand_tokens
-  chain_agrees F = made_agrees operand_tokens _ (seq_agrees F (some_agrees (seq_agrees O P))) (λ x fits. simp (said_tails, append_assoc))
+  chain_agrees next F = made_agrees operand_tokens _ (seq_if_agrees F (some_if_agrees (seq_agrees O P) (λ x. leaves next x.1)) (leaves next)) (λ x fits. simp said_tails)
 
 pub shifting_agrees : Agrees operator_tokens shifting
 shifting_agrees = either_agrees (one_of_agrees (s.ShiftLeft ∷ [])) (made_agrees operator_tokens _ (seq_agrees (sign_agrees s.Greater) (sign_agrees s.Greater)) (λ x fits. refl))
@@ -47,43 +50,64 @@ abbrev stepping : List Sign
 stepping = s.PlusPlus ∷ s.MinusMinus ∷ []
 
 module _ {under : Levels} (U : LevelsAgree under) where
+  selected_agrees : Agrees (both_spelling primary_tokens (both_spelling selector_tokens (flat_map selector_tokens))) (selected_over under)
+  selected_agrees = either_agrees (seq_if_agrees U.primary (seq_agrees member_agrees (many_agrees (either_agrees member_agrees U.bracketed))) (primary_leaves opens_dot))
+      (seq_if_agrees U.primary (seq_agrees U.bracketed (many_agrees (either_agrees member_agrees U.bracketed))) (primary_leaves opens_nothing))
+
   pub postfix_agrees : Agrees operand_tokens (postfix_over under)
   unfolding operand_tokens
   postfix_agrees = either_agrees
-      (made_agrees operand_tokens _ (seq_agrees U.primary (some_agrees U.selector)) (λ x fits. simp (said_selectors, append-nil)))
-      (made_agrees operand_tokens _ (seq_if_agrees (seq_agrees U.primary (many_agrees U.selector)) (one_of_agrees stepping) is_target) (λ x fits. simp (said_selectors, append_assoc)))
+      (made_agrees operand_tokens _ selected_agrees (λ x fits. simp (said_selectors, append-nil)))
+      (either_agrees (made_agrees operand_tokens _ (seq_if_agrees U.primary (one_of_agrees stepping) primary_assigns) (λ x fits. refl))
+      (made_agrees operand_tokens _ (seq_if_agrees selected_agrees (one_of_agrees stepping) ends_in_target) (λ x fits. simp (said_selectors, append_assoc))))
 
   pub target_agrees : {primary : Phrase Primary} → Agrees primary_tokens primary → Agrees operand_tokens (target_of primary under)
   unfolding operand_tokens
   target_agrees P = either_agrees (made_agrees operand_tokens t.primary (such_agrees primary_assigns P) (λ x fits. refl))
-      (made_agrees operand_tokens _ (such_agrees ends_in_target (seq_agrees U.primary (some_agrees U.selector))) (λ x fits. simp (said_selectors, append-nil)))
+      (made_agrees operand_tokens _ (such_agrees ends_in_target selected_agrees) (λ x fits. simp (said_selectors, append-nil)))
 
   pub unary_agrees : {bare : Phrase Operand} → Agrees operand_tokens bare → Agrees operand_tokens (unary_over bare under)
-  unary_agrees B = either_agrees (prefixed_agrees (one_of_agrees (s.Minus ∷ s.Tilde ∷ [])) (either_agrees U.unary B))
-      (either_agrees (prefixed_agrees (one_of_agrees (s.Bang ∷ [])) U.unary) (prefixed_agrees (one_of_agrees stepping) U.target))
+  unary_agrees B = either_agrees (prefixed_agrees (one_of_agrees (s.Minus ∷ s.Tilde ∷ [])) (either_agrees (U.row 0) B))
+      (either_agrees (prefixed_agrees (one_of_agrees (s.Bang ∷ [])) (U.row 0)) (prefixed_agrees (one_of_agrees stepping) U.target))
 
-  module _ {inner : ExprNodes} (I : ExprsAgree inner) where
-    pub relational_agrees : Agrees operand_tokens (relational_over inner under)
-    unfolding operand_tokens
-    relational_agrees = either_agrees (once_agrees (one_of_agrees (s.Less ∷ s.Greater ∷ s.LessEqual ∷ s.GreaterEqual ∷ [])) U.bit_or (either_agrees U.bit_or I.bare))
-        (either_agrees (made_agrees operand_tokens _ (seq_agrees U.bit_or (seq_agrees (word_agrees w.Is) (seq_agrees (opt_agrees (sign_agrees s.Bang)) I.type))) (λ x fits. simp said_sign))
-        (made_agrees operand_tokens _ (seq_agrees U.bit_or (seq_agrees (word_agrees w.As) I.type)) (λ x fits. refl)))
+-- ---- the rows of operators
 
-    pub conditional_agrees : Agrees operand_tokens (conditional_over inner under)
-    unfolding operand_tokens
-    conditional_agrees = made_agrees operand_tokens _ (seq_agrees U.logical_or (seq_agrees (sign_agrees s.Question) (seq_agrees I.without (seq_agrees (sign_agrees s.Colon) I.without)))) (λ x fits. refl)
+module _ {inner : ExprNodes} (I : ExprsAgree inner) where
+  row_agrees : (row : Row) {under : Phrase Operand} → Agrees operand_tokens under → Agrees operand_tokens (row_over row inner under)
+  unfolding operand_tokens
+  row_agrees (chained sign more) P = chain_agrees (one_of_agrees (sign ∷ more)) P (sign_level sign) (either_agrees P I.bare)
+  row_agrees shifts P = chain_agrees shifting_agrees P (sign_level s.ShiftLeft) (either_agrees P I.bare)
+  row_agrees (single sign more) P = once_agrees (one_of_agrees (sign ∷ more)) P (leaves (sign_level sign)) (either_agrees P I.bare)
+  row_agrees comparison P = either_agrees (once_agrees (one_of_agrees (s.Less ∷ [])) P leaves_less (either_agrees P I.bare))
+      (either_agrees (once_agrees (one_of_agrees (s.Greater ∷ s.LessEqual ∷ s.GreaterEqual ∷ [])) P (leaves compares) (either_agrees P I.bare))
+      (either_agrees (made_agrees operand_tokens _ (seq_if_agrees P (seq_agrees (word_agrees w.Is) (seq_agrees (opt_agrees (sign_agrees s.Bang)) I.type)) (leaves compares)) (λ x fits. simp said_sign))
+      (made_agrees operand_tokens _ (seq_if_agrees P (seq_agrees (word_agrees w.As) I.type) (leaves compares)) (λ x fits. refl))))
+  row_agrees (logical sign) P = chain_agrees (one_of_agrees (sign ∷ [])) P (sign_level sign) P
+  row_agrees choice P = made_agrees operand_tokens _ (seq_if_agrees P (seq_agrees (sign_agrees s.Question) (seq_agrees I.without (seq_agrees (sign_agrees s.Colon) I.without))) (leaves question)) (λ x fits. refl)
+  row_agrees no_row P = no_room_agrees operand_tokens
 
-    pub expr_agrees : Agrees expr_tokens (expr_over inner under)
-    unfolding expr_tokens
-    expr_agrees = either_agrees (made_agrees expr_tokens _ (seq_agrees U.target (seq_agrees assigning_agrees I.expr)) (λ x fits. refl))
-        (either_agrees (made_agrees expr_tokens _ (seq_agrees U.conditional (many_agrees I.cascade)) (λ x fits. simp said_cascades))
-        (made_agrees expr_tokens _ (seq_agrees (word_agrees w.Throw) I.expr) (λ x fits. refl)))
+  rows_agree : {unary : Phrase Operand} → Agrees operand_tokens unary → (under : ℕ → Phrase Operand) → ((i : ℕ) → Agrees operand_tokens (under i)) → (i : ℕ) → Agrees operand_tokens (rows_over unary inner under i)
+  rows_agree N under U zero = N
+  rows_agree N under U (suc i) = either_agrees (rows_agree N under U i) (row_agrees (row_at rows i) (U i))
 
-    pub without_agrees : Agrees expr_tokens (without_over inner under)
-    unfolding expr_tokens
-    without_agrees = either_agrees (made_agrees expr_tokens _ (seq_agrees U.target (seq_agrees assigning_agrees I.without)) (λ x fits. refl))
-        (either_agrees (made_agrees expr_tokens _ U.conditional (λ x fits. append-nil (operand_tokens x)))
-        (made_agrees expr_tokens _ (seq_agrees (word_agrees w.Throw) I.expr) (λ x fits. refl)))
+-- ---- expressions
+
+module _ {levels : Levels} (U : LevelsAgree levels) {inner : ExprNodes} (I : ExprsAgree inner) where
+  pub cascaded_agrees : Agrees (both_spelling operand_tokens (flat_map section_tokens)) (cascaded_over inner levels)
+  cascaded_agrees = either_agrees (seq_agrees (U.row (length rows)) (exactly_agrees (flat_map section_tokens) (flat_map inner.cascade.spelling) [] (many_agrees I.cascade).spells refl))
+      (seq_if_agrees (U.row (length rows)) (some_if_agrees I.cascade leaves_cascade) (leaves dots))
+
+  pub expr_agrees : Agrees expr_tokens (expr_over inner levels)
+  unfolding expr_tokens
+  expr_agrees = either_agrees (made_agrees expr_tokens _ (seq_agrees U.target (seq_agrees assigning_agrees I.expr)) (λ x fits. refl))
+      (either_agrees (made_agrees expr_tokens _ cascaded_agrees (λ x fits. simp said_cascades))
+      (made_agrees expr_tokens _ (seq_agrees (word_agrees w.Throw) I.expr) (λ x fits. refl)))
+
+  pub without_agrees : Agrees expr_tokens (without_over inner levels)
+  unfolding expr_tokens
+  without_agrees = either_agrees (made_agrees expr_tokens _ (seq_agrees U.target (seq_agrees assigning_agrees I.without)) (λ x fits. refl))
+      (either_agrees (made_agrees expr_tokens _ (U.row (length rows)) (λ x fits. append-nil (operand_tokens x)))
+      (made_agrees expr_tokens _ (seq_agrees (word_agrees w.Throw) I.expr) (λ x fits. refl)))
 
 -- ---- the levels
 
@@ -99,34 +123,12 @@ pub levels_agree : (here inner : ExprNodes) (under : Levels) → ExprsAgree here
 levels_agree here inner under H I U =
     let primary : Agrees primary_tokens (levels_over here inner under).primary = primary_agrees H in
     let postfix : Agrees operand_tokens (levels_over here inner under).postfix = either_agrees (operand_agrees primary) (postfix_agrees U) in
-    let unary : Agrees operand_tokens (levels_over here inner under).unary = either_agrees postfix (unary_agrees U I.bare) in
-    let product : Agrees operand_tokens (levels_over here inner under).product = either_agrees unary (chain_agrees (one_of_agrees (s.Star ∷ s.Slash ∷ s.TildeSlash ∷ s.Percent ∷ [])) U.unary (either_agrees U.unary I.bare)) in
-    let sum : Agrees operand_tokens (levels_over here inner under).sum = either_agrees product (chain_agrees (one_of_agrees (s.Plus ∷ s.Minus ∷ [])) U.product (either_agrees U.product I.bare)) in
-    let shift : Agrees operand_tokens (levels_over here inner under).shift = either_agrees sum (chain_agrees shifting_agrees U.sum (either_agrees U.sum I.bare)) in
-    let bit_and : Agrees operand_tokens (levels_over here inner under).bit_and = either_agrees shift (chain_agrees (one_of_agrees (s.Ampersand ∷ [])) U.shift (either_agrees U.shift I.bare)) in
-    let bit_xor : Agrees operand_tokens (levels_over here inner under).bit_xor = either_agrees bit_and (chain_agrees (one_of_agrees (s.Caret ∷ [])) U.bit_and (either_agrees U.bit_and I.bare)) in
-    let bit_or : Agrees operand_tokens (levels_over here inner under).bit_or = either_agrees bit_xor (chain_agrees (one_of_agrees (s.Bar ∷ [])) U.bit_xor (either_agrees U.bit_xor I.bare)) in
-    let relational : Agrees operand_tokens (levels_over here inner under).relational = either_agrees bit_or (relational_agrees U I) in
-    let equality : Agrees operand_tokens (levels_over here inner under).equality = either_agrees relational (once_agrees (one_of_agrees (s.EqualEqual ∷ s.NotEqual ∷ [])) U.relational (either_agrees U.relational I.bare)) in
-    let logical_and : Agrees operand_tokens (levels_over here inner under).logical_and = either_agrees equality (chain_agrees (one_of_agrees (s.AndAnd ∷ [])) U.equality U.equality) in
-    let logical_or : Agrees operand_tokens (levels_over here inner under).logical_or = either_agrees logical_and (chain_agrees (one_of_agrees (s.OrOr ∷ [])) U.logical_and U.logical_and) in
     record {
       primary = primary;
-      selector = selector_agrees H;
+      bracketed = bracketed_agrees H;
       target = target_agrees U primary;
       postfix = postfix;
-      unary = unary;
-      product = product;
-      sum = sum;
-      shift = shift;
-      bit_and = bit_and;
-      bit_xor = bit_xor;
-      bit_or = bit_or;
-      relational = relational;
-      equality = equality;
-      logical_and = logical_and;
-      logical_or = logical_or;
-      conditional = either_agrees logical_or (conditional_agrees U I);
+      row = rows_agree I (either_agrees postfix (unary_agrees U I.bare)) under.row U.row;
     }
 
 pub flat_agrees : (here : ExprNodes) → ExprsAgree here → LevelsAgree (flat_levels here)
@@ -135,19 +137,8 @@ flat_agrees here H =
     let operand : Agrees operand_tokens (made operand_tokens t.primary (primary_of here)) = operand_agrees primary in
     record {
       primary = primary;
-      selector = selector_agrees H;
+      bracketed = bracketed_agrees H;
       target = such_operand_agrees primary;
       postfix = operand;
-      unary = operand;
-      product = operand;
-      sum = operand;
-      shift = operand;
-      bit_and = operand;
-      bit_xor = operand;
-      bit_or = operand;
-      relational = operand;
-      equality = operand;
-      logical_and = operand;
-      logical_or = operand;
-      conditional = operand;
+      row = λ i. operand;
     }

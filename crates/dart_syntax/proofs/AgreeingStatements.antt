@@ -24,7 +24,7 @@ use Rattle.dart_syntax.specs.Expressions.{ExprNodes}
 use Rattle.dart_syntax.specs.Statements.{StmtNodes, to_metadata, to_annotation, more_required, to_required, more_optional, to_optional, with_optional, more_variables, metadata_of, this_dot, whole_body, body_of, parameter_over, required_over, optional_over, required_before, bracketed_over, parameters_over, variables_over, function_over, local_function_over, catch_over}
 use Rattle.dart_syntax.specs.Agreement.{Agrees, ExprsAgree, StmtsAgree, bare_parameter_tokens}
 use Rattle.dart_syntax.proofs.Agreeing.{exactly_agrees, seq_agrees, seq_if_agrees, opt_agrees, many_agrees, either_agrees, perhaps_agrees, made_agrees}
-use Rattle.dart_syntax.proofs.AgreeingTypes.{sign_agrees, word_agrees, identifier_agrees, dot_name_agrees, commas_agree, kind_agrees, result_agrees}
+use Rattle.dart_syntax.proofs.AgreeingTypes.{sign_agrees, word_agrees, identifier_agrees, dot_name_agrees, commas_agree, kind_agrees, variables_kind_agrees, result_agrees}
 use Rattle.dart_syntax.proofs.AgreeingExpressions.{after_sign_agrees, said_sign}
 
 -- ---- what may be missing
@@ -129,7 +129,7 @@ module _ {inner : StmtNodes} (I : StmtsAgree inner) where
 
   pub variables_agree : Agrees variables_tokens (variables_over inner)
   unfolding variables_tokens
-  variables_agree = made_agrees variables_tokens _ (seq_agrees (seq_if_agrees (kind_agrees I.expr_nodes.type) identifier_agrees kind_leaves_name)
+  variables_agree = made_agrees variables_tokens _ (seq_agrees (seq_if_agrees (variables_kind_agrees I.expr_nodes.type) identifier_agrees kind_leaves_name)
       (seq_agrees (after_sign_agrees I.expr_nodes.expr s.Assign) (seq_agrees (many_agrees (seq_agrees (sign_agrees s.Comma) (seq_agrees identifier_agrees (after_sign_agrees I.expr_nodes.expr s.Assign)))) (sign_agrees s.Semicolon))))
       (λ x fits. simp (said_variables, append_assoc))
 

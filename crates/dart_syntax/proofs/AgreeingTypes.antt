@@ -13,8 +13,8 @@ use Rattle.dart_tree.specs.declared.identifier.Identifier.TheVariants as i
 use Rattle.dart_tree.specs.LeafTokens.{sign_at, identifier_tokens, dot_name_tokens, type_tokens, type_arguments_tokens, type_list_tokens, result_tokens, kind_tokens}
 use Rattle.dart_tree.specs.Types.{TypeNode, TypeList, type_more, no_more_types, dynamic_type, void_result, typed_result, var_kind, final_kind, typed_kind}
 use Rattle.dart_syntax.specs.Phrases.{Phrase, made, seq}
-use Rattle.dart_syntax.specs.Leaves.{sign, sign_tokens, word, word_tokens, named, named_tokens, identifier, dot_name, commas}
-use Rattle.dart_syntax.specs.Types.{more_types, type_list, in_angles, types, type_arguments, type_over, type_within, result_over, kind_over, pair_of_types}
+use Rattle.dart_syntax.specs.Leaves.{sign, sign_tokens, word, word_tokens, named, named_tokens, identifier, creation, creation_tokens, dot_name, commas}
+use Rattle.dart_syntax.specs.Types.{more_types, type_list, in_angles, types, type_arguments, type_over, type_within, result_over, kind_over, variables_kind_over, pair_of_types}
 use Rattle.dart_syntax.specs.Agreement.{Agrees, TypesAgree}
 use Rattle.dart_syntax.proofs.Agreeing.{Single, leaf_agrees, no_room_agrees, seq_agrees, opt_agrees, many_agrees, either_agrees, made_agrees}
 
@@ -36,6 +36,9 @@ one_name (i.Set place) = (_, refl)
 
 pub identifier_agrees : Agrees identifier_tokens identifier
 identifier_agrees = leaf_agrees identifier_tokens one_name
+
+pub creation_agrees : Agrees creation_tokens creation
+creation_agrees = leaf_agrees creation_tokens (λ x. (_, refl))
 
 pub dot_name_agrees : Agrees dot_name_tokens dot_name
 dot_name_agrees = made_agrees dot_name_tokens _ (seq_agrees (sign_agrees s.Dot) identifier_agrees) (λ x fits. refl)
@@ -87,6 +90,9 @@ kind_agrees P = either_agrees (made_agrees kind_tokens var_kind (word_agrees w.V
     (either_agrees (made_agrees kind_tokens (λ x. final_kind x.0 x.1) (seq_agrees (word_agrees w.Final) (opt_agrees P)) (λ x fits. refl))
     (made_agrees kind_tokens typed_kind P (λ x fits. refl)))
 
+pub variables_kind_agrees : {p : Phrase TypeNode} → Agrees type_tokens p → Agrees kind_tokens (variables_kind_over p)
+variables_kind_agrees P = either_agrees (kind_agrees P) (made_agrees kind_tokens _ (seq_agrees (word_agrees w.Const) (opt_agrees P)) (λ x fits. refl))
+
 pub all_types_agree : (n : ℕ) → TypesAgree n
 all_types_agree n = record {
   type = types_within_agree n;
@@ -94,4 +100,5 @@ all_types_agree n = record {
   arguments = type_arguments_agree (types_agree (types_within_agree n));
   result = result_agrees (types_within_agree n);
   kind = kind_agrees (types_within_agree n);
+  variables_kind = variables_kind_agrees (types_within_agree n);
 }

@@ -1,7 +1,6 @@
 -- A list of tokens has one answer at most.
-use Rattle.std.proofs.Common.{◌≡◌, ℕ, ◌+◌, true, List, [], ◌∷◌, ◌++◌, length, take, drop, Some, Result, Ok, Err, inl, inr, sym, ap, ◌∙◌, subst, arith}
+use Rattle.std.proofs.Common.{◌≡◌, ℕ, ◌+◌, List, [], ◌∷◌, ◌++◌, length, take, drop, Some, Result, Ok, Err, inl, inr, sym, ap, ◌∙◌, subst, arith}
 use Rattle.std.proofs.lemmas.List.{take-append-drop}
-use Rattle.std.proofs.lemmas.Bool.Decides.{nat_tests}
 use Rattle.grammar_laws.proofs.Wholes.{first_bad_once}
 use Rattle.dart_base.specs.declared.place.Place.{Place}
 use Rattle.dart_base.specs.declared.feature.Feature.{Feature}
@@ -9,26 +8,9 @@ use Rattle.dart_token.specs.declared.token.Token.{Token}
 use Rattle.dart_tree.specs.Unit.{UnitTree}
 use Rattle.dart_tree.specs.UnitTokens.{unit_tokens}
 use Rattle.dart_syntax.specs.Units.{unit_within}
-use Rattle.dart_syntax.specs.Reaches.{unit_reach}
-use Rattle.dart_syntax.specs.Syntax.{goes_further, Spells, Refusal, left_out_at, syntax_at, too_deep_at, StandsAt, EndsAt, behind, FirstWrong, GoesDeeper, Unfinished, Answers}
+use Rattle.dart_syntax.specs.Syntax.{Spells, SyntaxReason, left_out_at, syntax_at, too_deep_at, StandsAt, EndsAt, behind, FirstWrong, GoesDeeper, Unfinished, Answers}
 use Rattle.dart_syntax.specs.Agreement.{Agrees}
 use Rattle.dart_syntax.proofs.AgreeingUnits.{units_agree}
-
--- ---- of two units one goes further
-
-not_both : (xs ys : List ℕ) → goes_further xs ys ≡ true → goes_further ys xs ≡ true → ⊥
-not_both [] ys f g = absurd cc
-not_both (x ∷ xs) [] f g = absurd cc
-not_both (x ∷ xs) (y ∷ ys) f g = grind (arith, nat_tests, not_both xs ys)
-
-one_unit : (depth : ℕ) (tokens : List Token) (a b : UnitTree) → Spells depth tokens a → Spells depth tokens b → a ≡ b
-one_unit depth tokens a b A B = elim (A.longest b B.fits B.same) [
-  | inl same ↦ sym same
-  | inr further ↦ elim (B.longest a A.fits A.same) [
-    | inl same ↦ same
-    | inr back ↦ absurd (not_both (unit_reach a) (unit_reach b) further back)
-  ]
-]
 
 -- ---- one place
 
@@ -61,7 +43,7 @@ fronts depth tokens unit S i =
 never_wrong : (depth : ℕ) (tokens : List Token) (unit : UnitTree) (at : ℕ) (place : Place) → Spells depth tokens unit → FirstWrong depth tokens at place → ⊥
 never_wrong depth tokens unit at place S (bad, less, stands) = bad.bad less (fronts depth tokens unit S (at + 1))
 
-never_refused : (depth further : ℕ) (tokens : List Token) (unit : UnitTree) (r : Refusal) → Spells depth tokens unit → Answers depth further tokens (Err r) → ⊥
+never_refused : (depth further : ℕ) (tokens : List Token) (unit : UnitTree) (r : SyntaxReason) → Spells depth tokens unit → Answers depth further tokens (Err r) → ⊥
 unfolding Answers
 never_refused depth further tokens unit (left_out_at place feature) S e = let whole = S.whole in absurd cc
 never_refused depth further tokens unit (too_deep_at place) S (none, at, wrong, deeper) = never_wrong depth tokens unit at place S wrong
@@ -88,7 +70,7 @@ some_once : (x y : Place × Feature) → Some x ≡ Some y → x ≡ y
 some_once x y e = cc
 
 module _ (depth further : ℕ) (tokens : List Token) where
-  one_refusal : (r q : Refusal) → Answers depth further tokens (Err r) → Answers depth further tokens (Err q) → r ≡ q
+  one_refusal : (r q : SyntaxReason) → Answers depth further tokens (Err r) → Answers depth further tokens (Err q) → r ≡ q
   unfolding Answers
   one_refusal (left_out_at p f) (left_out_at q g) e other =
       let same : p ≡ q = ap (λ (x : Place × Feature). x.0) (some_once _ _ (sym e ∙ other)) in
@@ -108,9 +90,9 @@ module _ (depth further : ℕ) (tokens : List Token) where
   one_refusal (syntax_at p) (syntax_at q) (none, inr (u, ends)) (also, inl (j, w, c)) = absurd (not_at_end depth tokens j q w u)
   one_refusal (syntax_at p) (syntax_at q) (none, inr (u, ends)) (also, inr (v, there)) = ap syntax_at (one_end tokens p q ends there)
 
-  pub one_answer : (x y : Result UnitTree Refusal) → Answers depth further tokens x → Answers depth further tokens y → x ≡ y
+  pub one_answer : (x y : Result UnitTree SyntaxReason) → Answers depth further tokens x → Answers depth further tokens y → x ≡ y
   unfolding Answers
-  one_answer (Ok a) (Ok b) A B = ap Ok (one_unit depth tokens a b A B)
-  one_answer (Ok a) (Err r) A R = absurd (never_refused depth further tokens a r A R)
-  one_answer (Err r) (Ok b) R B = absurd (never_refused depth further tokens b r B R)
+  one_answer (Ok a) (Ok b) (A, only) (B, other) = ap Ok (other a A)
+  one_answer (Ok a) (Err r) A R = absurd (never_refused depth further tokens a r A.0 R)
+  one_answer (Err r) (Ok b) R B = absurd (never_refused depth further tokens b r B.0 R)
   one_answer (Err r) (Err q) R Q = ap Err (one_refusal r q R Q)

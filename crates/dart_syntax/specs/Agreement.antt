@@ -7,13 +7,13 @@ use Rattle.dart_token.specs.declared.sign.Sign.TheVariants as s
 use Rattle.dart_tree.specs.LeafTokens.{type_tokens, type_list_tokens, type_arguments_tokens, result_tokens, kind_tokens, catch_tokens}
 use Rattle.dart_tree.specs.Tree.{Value, ParameterKind, Selectors, Metadata}
 use Rattle.dart_tree.specs.Tokens.{expr_tokens, operand_tokens, primary_tokens, selector_tokens, value_tokens, parameter_kind_tokens, stmt_tokens, arguments_tokens, parameters_tokens, variables_tokens, function_tokens, block_tokens, selectors_tokens, metadata_tokens}
-use Rattle.dart_tree.specs.UnitTokens.{alias_tokens, accessor_tokens, constructor_tokens, member_tokens, class_tokens, decl_tokens, directive_tokens, unit_tokens}
+use Rattle.dart_tree.specs.UnitTokens.{alias_tokens, accessor_tokens, constructor_tokens, member_tokens, class_tokens, enum_tokens, decl_tokens, directive_tokens, unit_tokens}
 use Rattle.dart_syntax.specs.Phrases.{Phrase}
 use Rattle.dart_syntax.specs.Leaves.{sign_tokens}
-use Rattle.dart_syntax.specs.Types.{type_within, types, type_arguments, result_over, kind_over}
+use Rattle.dart_syntax.specs.Types.{type_within, types, type_arguments, result_over, kind_over, variables_kind_over}
 use Rattle.dart_syntax.specs.Expressions.{ExprNodes, Levels}
 use Rattle.dart_syntax.specs.Statements.{StmtNodes, Within}
-use Rattle.dart_syntax.specs.Declarations.{constructor_within, external_or_none, function_within, accessor_within, alias_within, member_within, class_within, decl_within}
+use Rattle.dart_syntax.specs.Declarations.{constructor_within, external_or_none, function_within, accessor_within, alias_within, member_within, class_within, enum_within, decl_within}
 use Rattle.dart_syntax.specs.Units.{directive_within, part_of_over, library_over, imports_and_exports, part_over, unit_within}
 
 -- the phrase is one of these tokens
@@ -34,6 +34,7 @@ pub record TypesAgree (n : ℕ) : Type 0 where
   pub arguments : Agrees type_arguments_tokens (type_arguments (types (type_within n)))
   pub result : Agrees result_tokens (result_over (type_within n))
   pub kind : Agrees kind_tokens (kind_over (type_within n))
+  pub variables_kind : Agrees kind_tokens (variables_kind_over (type_within n))
 
 -- the tokens of a cascade's part, and of a parameter without its comma and default
 abbrev pub section_tokens : Place × (Selectors × Value) → List Token
@@ -56,21 +57,10 @@ pub record ExprsAgree (nodes : ExprNodes) : Type 0 where
 
 pub record LevelsAgree (levels : Levels) : Type 0 where
   pub primary : Agrees primary_tokens levels.primary
-  pub selector : Agrees selector_tokens levels.selector
+  pub bracketed : Agrees selector_tokens levels.bracketed
   pub target : Agrees operand_tokens levels.target
   pub postfix : Agrees operand_tokens levels.postfix
-  pub unary : Agrees operand_tokens levels.unary
-  pub product : Agrees operand_tokens levels.product
-  pub sum : Agrees operand_tokens levels.sum
-  pub shift : Agrees operand_tokens levels.shift
-  pub bit_and : Agrees operand_tokens levels.bit_and
-  pub bit_xor : Agrees operand_tokens levels.bit_xor
-  pub bit_or : Agrees operand_tokens levels.bit_or
-  pub relational : Agrees operand_tokens levels.relational
-  pub equality : Agrees operand_tokens levels.equality
-  pub logical_and : Agrees operand_tokens levels.logical_and
-  pub logical_or : Agrees operand_tokens levels.logical_or
-  pub conditional : Agrees operand_tokens levels.conditional
+  pub row : (i : ℕ) → Agrees operand_tokens (levels.row i)
 
 -- the nodes of statements, and statements themselves (17 Statements)
 pub record StmtsAgree (nodes : StmtNodes) : Type 0 where
@@ -86,13 +76,15 @@ pub record WithinAgrees (stage : Within) : Type 0 where
   pub levels : LevelsAgree stage.levels
   pub stmt : Agrees stmt_tokens stage.stmt
 
--- declarations, and what classes are made of, in a class of each name (18 Libraries and Scripts, 10 Classes)
+-- declarations, and what classes are made of, in a class of each name (18 Libraries and Scripts,
+-- 10 Classes, 13 Enums)
 pub record DeclarationsAgree (n : ℕ) : Type 0 where
   pub declaration : Agrees decl_tokens (decl_within n)
   pub class : Agrees class_tokens (class_within n)
   pub member : (class : List ℕ) → Agrees member_tokens (member_within n class)
   pub constructor : (class : List ℕ) → Agrees constructor_tokens (constructor_within class n)
   pub alias : Agrees alias_tokens (alias_within n)
+  pub enum : Agrees enum_tokens (enum_within n)
   pub function : Agrees function_tokens (function_within external_or_none n)
   pub accessor : Agrees accessor_tokens (accessor_within external_or_none n)
 

@@ -1,6 +1,6 @@
--- Expressions. `inner` has the nodes that stand inside, `here` the nodes of the same depth, and `under` the levels that
--- stand below an operator.
-use Rattle.std.specs.Prelude.{ℕ, Bool, true, false, List, [], ◌∷◌, Option, None, Some}
+-- Expressions. `inner` has the nodes that stand inside, `here` the nodes of the same depth, and
+-- `under` the levels that stand below an operator.
+use Rattle.std.specs.Prelude.{ℕ, zero, suc, flat_map, length, Bool, true, false, List, [], ◌∷◌, Option, None, Some}
 use Rattle.dart_base.specs.declared.place.Place.{Place}
 use Rattle.dart_token.specs.declared.token.Quote.{Quote}
 use Rattle.dart_token.specs.declared.sign.Sign.{Sign}
@@ -13,72 +13,95 @@ use Rattle.dart_tree.specs.declared.operator.Operator.TheVariants as o
 use Rattle.dart_tree.specs.declared.expression.Atom.TheVariants as a
 use Rattle.dart_tree.specs.declared.expression.PieceKind.TheVariants as pk
 use Rattle.dart_tree.specs.LeafTokens.{operator_tokens, piece_token, type_list_tokens}
-use Rattle.dart_tree.specs.Types.{TypeNode, named_type, no_types, type_more, no_more_types}
+use Rattle.dart_tree.specs.Types.{TypeNode, TypeArguments, named_type, no_types, type_more, no_more_types}
 use Rattle.dart_tree.specs.Tree as t
 use Rattle.dart_tree.specs.Tree.{Expr, Operand, Primary, Selector, Value, Body, Arguments, Parameters, Block, Tails, Pieces, Selectors, Cascades, Items, Entries}
 use Rattle.dart_tree.specs.Tokens.{expr_tokens, operand_tokens, primary_tokens, selector_tokens, value_tokens, body_tokens, arguments_tokens, selectors_tokens, items_tokens, entries_tokens, pieces_tokens}
-use Rattle.dart_syntax.specs.Phrases.{Phrase, seq, seq_if, opt, many, some, either, perhaps, made, such, exactly, leaf}
-use Rattle.dart_syntax.specs.Leaves.{sign, word, identifier, atom, dot_name, label, piece, one_of, commas}
+use Rattle.dart_syntax.specs.Phrases.{Phrase, ◌~◌, ◌<|>◌, seq_if, opt, many, some, some_if, perhaps, made, made₂, made₃, made₄, made₅, such, no_room, exactly, leaf}
+use Rattle.dart_syntax.specs.Leaves.{sign, word, identifier, atom, creation, dot_name, label, piece, one_of, commas}
 use Rattle.dart_syntax.specs.Types.{type_arguments, pair_of_types}
+use Rattle.dart_syntax.specs.Levels.{sign_level}
+use Rattle.dart_syntax.specs.Edges.{dots, question, compares, opens_dot, opens_nothing, leaves, leaves_less, primary_leaves, leaves_cascade}
 
 -- ---- the lists of the trees
 
 abbrev pub to_tails : List (Operator × Operand) → Tails
 to_tails [] = t.no_tails
-to_tails (x ∷ xs) = t.tail x.0 x.1 (to_tails xs)
+to_tails ((operator, x) ∷ more) = t.tail operator x (to_tails more)
 
 abbrev pub to_selectors : List Selector → Selectors
 to_selectors [] = t.no_selectors
-to_selectors (x ∷ xs) = t.selector x (to_selectors xs)
+to_selectors (x ∷ more) = t.selector x (to_selectors more)
 
 abbrev pub one_or_more_selectors : Selector × List Selector → Selectors
-one_or_more_selectors x = t.selector x.0 (to_selectors x.1)
+one_or_more_selectors (first, more) = t.selector first (to_selectors more)
 
 abbrev pub to_cascades : List (Place × (Selectors × Value)) → Cascades
 to_cascades [] = t.no_cascades
-to_cascades (x ∷ xs) = t.cascade x.0 x.1.0 x.1.1 (to_cascades xs)
+to_cascades ((dots, (selectors, value)) ∷ more) = t.cascade dots selectors value (to_cascades more)
 
 -- further expressions, and after them these items
 abbrev pub more_items : List (Place × Expr) → Items → Items
 more_items [] rest = rest
-more_items (x ∷ xs) rest = t.item (Some x.0) None x.1 (more_items xs rest)
+more_items ((comma, x) ∷ more) rest = t.item (Some comma) None x (more_items more rest)
 
 abbrev pub more_named : List (Place × (Label × Expr)) → Items
 more_named [] = t.no_items
-more_named (x ∷ xs) = t.item (Some x.0) (Some x.1.0) x.1.1 (more_named xs)
+more_named ((comma, (name, x)) ∷ more) = t.item (Some comma) (Some name) x (more_named more)
 
 abbrev pub plain_items : Expr × List (Place × Expr) → Items
-plain_items x = t.item None None x.0 (more_items x.1 t.no_items)
+plain_items (first, more) = t.item None None first (more_items more t.no_items)
 
 abbrev pub plain_then_named : (Expr × List (Place × Expr)) × List (Place × (Label × Expr)) → Items
-plain_then_named x = t.item None None x.0.0 (more_items x.0.1 (more_named x.1))
+plain_then_named ((first, more), named) =
+    t.item None None first (more_items more (more_named named))
 
 abbrev pub named_items : (Label × Expr) × List (Place × (Label × Expr)) → Items
-named_items x = t.item None (Some x.0.0) x.0.1 (more_named x.1)
+named_items ((name, x), more) = t.item None (Some name) x (more_named more)
 
 abbrev pub more_entries : List (Place × (Expr × (Place × Expr))) → Entries
 more_entries [] = t.no_entries
-more_entries (x ∷ xs) = t.entry (Some x.0) x.1.0 x.1.1.0 x.1.1.1 (more_entries xs)
+more_entries ((comma, (key, (colon, value))) ∷ more) =
+    t.entry (Some comma) key colon value (more_entries more)
 
 abbrev pub to_entries : (Expr × (Place × Expr)) × List (Place × (Expr × (Place × Expr))) → Entries
-to_entries x = t.entry None x.0.0 x.0.1.0 x.0.1.1 (more_entries x.1)
+to_entries ((key, (colon, value)), more) = t.entry None key colon value (more_entries more)
 
 abbrev pub middles : List ((Place × List ℕ) × Expr) → Pieces → Pieces
 middles [] rest = rest
-middles (x ∷ xs) rest = t.piece pk.Middle x.0.0 x.0.1 (t.given None x.1) (middles xs rest)
+middles (((place, text), x) ∷ more) rest =
+    t.piece pk.Middle place text (t.given None x) (middles more rest)
+
+-- a string with expressions: its head, its middles and its tail
+abbrev pub whole_string : Place × List ℕ → Pieces
+whole_string (place, text) = t.piece pk.Whole place text t.omitted t.no_pieces
+
+abbrev pub string_parts : (Quote × (Place × List ℕ)) × Expr →
+    List ((Place × List ℕ) × Expr) × (Place × List ℕ) → Pieces
+string_parts ((quote, (place, text)), x) (more, (last, end)) =
+    t.piece (pk.Head quote) place text (t.given None x)
+    (middles more (t.piece pk.Tail last end t.omitted t.no_pieces))
 
 abbrev pub append_pieces : Pieces → Pieces → Pieces
 append_pieces t.no_pieces rest = rest
-append_pieces (t.piece kind place text value more) rest = t.piece kind place text value (append_pieces more rest)
+append_pieces (t.piece kind place text value more) rest =
+    t.piece kind place text value (append_pieces more rest)
 
 abbrev pub joined : List Pieces → Pieces
 joined [] = t.no_pieces
-joined (x ∷ xs) = append_pieces x (joined xs)
+joined (x ∷ more) = append_pieces x (joined more)
 
 abbrev pub join_pieces : Pieces × List Pieces → Pieces
-join_pieces x = append_pieces x.0 (joined x.1)
+join_pieces (first, more) = append_pieces first (joined more)
 
--- ---- assignable targets: id, e.id, e[i], and the same after super
+-- a list's and a map's parts, with a comma at their end or none
+abbrev pub a_list : TypeArguments → Place → Items × Option Place → Place → Primary
+a_list types opening (items, comma) closing = t.list_literal types opening items comma closing
+
+abbrev pub a_map : TypeArguments → Place → Entries × Option Place → Place → Primary
+a_map types opening (entries, comma) closing = t.map_literal types opening entries comma closing
+
+-- ---- assignable targets: id, e.id, e[i], and the same after super (16.32 Assignable Expressions)
 
 abbrev pub assigns : Selector → Bool
 assigns (t.call arguments) = false
@@ -93,11 +116,8 @@ primary_assigns (t.atom (a.Name name)) = true
 primary_assigns (t.super_access word selector) = assigns selector
 primary_assigns x = false
 
-abbrev pub is_target : Primary × List Selector → Bool
-is_target x = last_assigns (primary_assigns x.0) (to_selectors x.1)
-
 abbrev pub ends_in_target : Primary × (Selector × List Selector) → Bool
-ends_in_target x = last_assigns false (one_or_more_selectors x.1)
+ends_in_target (x, selectors) = last_assigns false (one_or_more_selectors selectors)
 
 abbrev pub selectors_assign : Selectors → Bool
 selectors_assign x = last_assigns false x
@@ -121,209 +141,299 @@ pub record ExprNodes : Type 1 where
   pub parameters : Phrase Parameters
   pub block : Phrase Block
 
--- operands that are no deeper than that, by level
+-- operands that are no deeper than that; `row` has them by level: unary expressions at 0, and above
+-- them each level of operators, up to conditional expressions
 pub record Levels : Type 1 where
   pub primary : Phrase Primary
-  pub selector : Phrase Selector
+  pub bracketed : Phrase Selector
   pub target : Phrase Operand
   pub postfix : Phrase Operand
-  pub unary : Phrase Operand
-  pub product : Phrase Operand
-  pub sum : Phrase Operand
-  pub shift : Phrase Operand
-  pub bit_and : Phrase Operand
-  pub bit_xor : Phrase Operand
-  pub bit_or : Phrase Operand
-  pub relational : Phrase Operand
-  pub equality : Phrase Operand
-  pub logical_and : Phrase Operand
-  pub logical_or : Phrase Operand
-  pub conditional : Phrase Operand
+  pub row : ℕ → Phrase Operand
 
 -- an expression or none, and one after its sign or none
 abbrev pub maybe_expr : Phrase Expr → Phrase Value
 maybe_expr expr = perhaps t.omitted (made value_tokens (λ e. t.given None e) expr)
 
 abbrev pub after_sign : Sign → Phrase Expr → Phrase Value
-after_sign which expr = perhaps t.omitted (made value_tokens (λ x. t.given (Some (o.Sign x.0 which)) x.1) (seq (sign which) expr))
+after_sign which expr = perhaps t.omitted
+    (made₂ value_tokens (λ place e. t.given (Some (o.Sign place which)) e) (sign which ~ expr))
 
--- Expr {, Expr}
+-- expressionList: expression {, expression}
 abbrev pub plain_list : Phrase Expr → Phrase Items
 plain_list expr = made items_tokens plain_items (commas expr)
 
--- a string: pieces with an expression after each head and each middle
+-- a string: pieces with an expression after each head and each middle (16.5 Strings)
 abbrev pub head : Phrase (Quote × (Place × List ℕ))
 head = leaf (λ x. piece_token (pk.Head x.0) x.1.0 x.1.1 ∷ [])
 
 abbrev pub one_string : Phrase Expr → Phrase Pieces
-one_string expr = either
-    (made pieces_tokens (λ x. t.piece pk.Whole x.0 x.1 t.omitted t.no_pieces) (piece pk.Whole))
-    (made pieces_tokens (λ x. t.piece (pk.Head x.0.0.0) x.0.0.1.0 x.0.0.1.1 (t.given None x.0.1) (middles x.1.0 (t.piece pk.Tail x.1.1.0 x.1.1.1 t.omitted t.no_pieces)))
-    (seq (seq head expr) (seq (many (seq (piece pk.Middle) expr)) (piece pk.Tail))))
+one_string expr = made pieces_tokens whole_string (piece pk.Whole)
+    <|> made₂ pieces_tokens string_parts
+    ((head ~ expr) ~ many (piece pk.Middle ~ expr) ~ piece pk.Tail)
 
--- a string and its adjacent strings
+-- stringLiteral: a string and its adjacent strings
 abbrev pub strings : Phrase Expr → Phrase Pieces
 strings expr = made pieces_tokens join_pieces (some (one_string expr))
+
+-- . id
+abbrev pub member : Phrase Selector
+member = made₂ selector_tokens (λ dot name. t.member (Some dot) name) (sign s.Dot ~ identifier)
 
 -- ---- the nodes, over those inside
 
 module _ (inner : ExprNodes) where
-  -- [Expr {, Expr}] {, id : Expr}, without a comma before the first
+  open inner use {type, expr, arguments, parameters, block}
+
+  -- argumentList: expressionList {, namedArgument} | namedArgument {, namedArgument}, or nothing
+  -- namedArgument: label expression
   abbrev pub argument_items : Phrase Items
-  argument_items = perhaps t.no_items (either
-      (made items_tokens plain_then_named (seq (commas inner.expr) (many (seq (sign s.Comma) (seq label inner.expr)))))
-      (made items_tokens named_items (commas (seq label inner.expr))))
+  argument_items = perhaps t.no_items
+      (made items_tokens plain_then_named (commas expr ~ many (sign s.Comma ~ label ~ expr))
+      <|> made items_tokens named_items (commas (label ~ expr)))
 
-  -- Args = ( [Expr {, Expr}] {, id : Expr} )
+  -- arguments: ( [argumentList] ) (16.14.1 Actual Argument List Evaluation)
   abbrev pub arguments_over : Phrase Arguments
-  arguments_over = made arguments_tokens (λ x. t.the_arguments x.0 x.1.0 x.1.1) (seq (sign s.LeftParenthesis) (seq argument_items (sign s.RightParenthesis)))
+  arguments_over = made₃ arguments_tokens t.the_arguments
+      (sign s.LeftParenthesis ~ argument_items ~ sign s.RightParenthesis)
 
-  -- [< Type >] [ [Expr {, Expr} [,]] ]
+  -- listLiteral: [< type >] [ [expressionList [,]] ] (16.7 Lists)
   abbrev pub list_over : Phrase Primary
-  list_over = made primary_tokens (λ x. t.list_literal x.0 x.1.0 x.1.1.0.0 x.1.1.0.1 x.1.1.1)
-      (seq (type_arguments (made type_list_tokens (λ x. type_more None x no_more_types) inner.type)) (seq (sign s.LeftBracket) (seq (perhaps (t.no_items, None) (seq (plain_list inner.expr) (opt (sign s.Comma)))) (sign s.RightBracket))))
+  list_over = made₄ primary_tokens a_list
+      (type_arguments (made type_list_tokens (λ x. type_more None x no_more_types) type)
+      ~ sign s.LeftBracket
+      ~ perhaps (t.no_items, None) (plain_list expr ~ opt (sign s.Comma))
+      ~ sign s.RightBracket)
 
-  -- Expr : Expr {, Expr : Expr}
+  -- mapLiteralEntry {, mapLiteralEntry}, where mapLiteralEntry: expression : expression
   abbrev pub entries_over : Phrase Entries
-  entries_over = made entries_tokens to_entries (commas (seq inner.expr (seq (sign s.Colon) inner.expr)))
+  entries_over = made entries_tokens to_entries (commas (expr ~ sign s.Colon ~ expr))
 
-  -- [< Type , Type >] { [Expr : Expr {, Expr : Expr} [,]] }
+  -- mapLiteral: [< type , type >] { [mapLiteralEntry {, mapLiteralEntry} [,]] } (16.8 Maps)
   abbrev pub map_over : Phrase Primary
-  map_over = made primary_tokens (λ x. t.map_literal x.0 x.1.0 x.1.1.0.0 x.1.1.0.1 x.1.1.1)
-      (seq (type_arguments (made type_list_tokens pair_of_types (seq inner.type (seq (sign s.Comma) inner.type)))) (seq (sign s.LeftBrace) (seq (perhaps (t.no_entries, None) (seq entries_over (opt (sign s.Comma)))) (sign s.RightBrace))))
+  map_over = made₄ primary_tokens a_map
+      (type_arguments (made type_list_tokens pair_of_types (type ~ sign s.Comma ~ type))
+      ~ sign s.LeftBrace
+      ~ perhaps (t.no_entries, None) (entries_over ~ opt (sign s.Comma))
+      ~ sign s.RightBrace)
 
-  -- => Expr | Block
+  -- functionExpressionBody: => expression | block
   abbrev pub literal_body_over : Phrase Body
-  literal_body_over = either (made body_tokens (λ x. t.arrow_body x.0 x.1 None) (seq (sign s.Arrow) inner.expr)) (made body_tokens t.block_body inner.block)
+  literal_body_over =
+      made₂ body_tokens (λ arrow value. t.arrow_body arrow value None) (sign s.Arrow ~ expr)
+      <|> made body_tokens t.block_body block
 
-  -- FunctionLiteral = Params (=> Expr | Block)
+  -- functionExpression: formalParameterList functionExpressionBody (16.10 Function Expressions)
   abbrev pub function_literal_over : Phrase Primary
-  function_literal_over = made primary_tokens (λ x. t.function_literal x.0 x.1) (seq inner.parameters literal_body_over)
+  function_literal_over = made₂ primary_tokens t.function_literal (parameters ~ literal_body_over)
 
   abbrev pub literal_over : Phrase Primary
-  literal_over = either list_over (either map_over function_literal_over)
+  literal_over = list_over <|> map_over <|> function_literal_over
 
-  -- selector = . id | [ Expr ] | Args
+  -- [ expression ] | arguments
+  abbrev pub bracketed_of : Phrase Selector
+  bracketed_of =
+      made₃ selector_tokens t.index (sign s.LeftBracket ~ expr ~ sign s.RightBracket)
+      <|> made selector_tokens t.call arguments
+
+  -- selector: . id | [ expression ] | arguments (16.14 to 16.18)
   abbrev pub selector_of : Phrase Selector
-  selector_of = either (made selector_tokens (λ x. t.member (Some x.0) x.1) (seq (sign s.Dot) identifier))
-      (either (made selector_tokens (λ x. t.index x.0 x.1.0 x.1.1) (seq (sign s.LeftBracket) (seq inner.expr (sign s.RightBracket))))
-      (made selector_tokens t.call inner.arguments))
+  selector_of = member <|> bracketed_of
 
-  -- (id | [ Expr ]) {selector}
+  -- cascadeSelector {selector}, where cascadeSelector: id | [ expression ]
   abbrev pub section_over : Phrase Selectors
-  section_over = made selectors_tokens one_or_more_selectors (seq
-      (either (made selector_tokens (λ x. t.member None x) identifier) (made selector_tokens (λ x. t.index x.0 x.1.0 x.1.1) (seq (sign s.LeftBracket) (seq inner.expr (sign s.RightBracket)))))
-      (many selector_of))
+  section_over = made selectors_tokens one_or_more_selectors
+      ((made selector_tokens (λ name. t.member None name) identifier
+      <|> made₃ selector_tokens t.index (sign s.LeftBracket ~ expr ~ sign s.RightBracket))
+      ~ many selector_of)
 
--- = *= /= ~/= %= += -= <<= > >= &= ^= |=
+-- = *= /= ~/= %= += -= <<= &= ^= |=
+abbrev pub assignment_signs : List Sign
+assignment_signs =
+    s.Assign ∷ s.StarAssign ∷ s.SlashAssign ∷ s.TildeSlashAssign ∷ s.PercentAssign ∷ s.PlusAssign
+    ∷ s.MinusAssign ∷ s.ShiftLeftAssign ∷ s.AmpersandAssign ∷ s.CaretAssign ∷ s.BarAssign ∷ []
+
+-- assignmentOperator: one of these, or > >= (16.19 Assignment)
 abbrev pub assigning : Phrase Operator
-assigning = either (one_of (s.Assign ∷ s.StarAssign ∷ s.SlashAssign ∷ s.TildeSlashAssign ∷ s.PercentAssign ∷ s.PlusAssign ∷ s.MinusAssign ∷ s.ShiftLeftAssign ∷ s.AmpersandAssign ∷ s.CaretAssign ∷ s.BarAssign ∷ []))
-    (made operator_tokens (λ x. o.ShiftRightAssign x.0 x.1) (seq (sign s.Greater) (sign s.GreaterEqual)))
+assigning = one_of assignment_signs
+    <|> made₂ operator_tokens o.ShiftRightAssign (sign s.Greater ~ sign s.GreaterEqual)
 
--- Cascade = .. (id | [ Expr ]) {selector} [asgop Expr], without a cascade in it; an assignment wants a target
+-- cascadeSection: .. cascadeSelector {selector} [assignmentOperator expressionWithoutCascade]
+-- (16.17.2 Cascaded Invocations); an assignment wants a target
 abbrev pub cascade_over : ExprNodes → Phrase (Place × (Selectors × Value))
-cascade_over inner = seq (sign s.DotDot) (either (seq (section_over inner) (exactly value_tokens t.omitted))
-    (seq_if selectors_assign (section_over inner) (made value_tokens (λ x. t.given (Some x.0) x.1) (seq assigning inner.without))))
-
--- Expr = target asgop Expr | Cond {Cascade} | throw Expr
-abbrev pub expr_over : ExprNodes → Levels → Phrase Expr
-expr_over inner levels = either (made expr_tokens (λ x. t.assign x.0 x.1.0 x.1.1) (seq levels.target (seq assigning inner.expr)))
-    (either (made expr_tokens (λ x. t.plain x.0 (to_cascades x.1)) (seq levels.conditional (many inner.cascade)))
-    (made expr_tokens (λ x. t.throw x.0 x.1) (seq (word w.Throw) inner.expr)))
-
--- the same without a cascade, also behind its assignment operator
-abbrev pub without_over : ExprNodes → Levels → Phrase Expr
-without_over inner levels = either (made expr_tokens (λ x. t.assign x.0 x.1.0 x.1.1) (seq levels.target (seq assigning inner.without)))
-    (either (made expr_tokens (λ x. t.plain x t.no_cascades) levels.conditional)
-    (made expr_tokens (λ x. t.throw x.0 x.1) (seq (word w.Throw) inner.expr)))
+cascade_over inner = sign s.DotDot
+    ~ (section_over inner ~ exactly value_tokens t.omitted
+    <|> seq_if selectors_assign (section_over inner)
+    (made₂ value_tokens (λ operator e. t.given (Some operator) e) (assigning ~ inner.without)))
 
 -- ---- the levels
 
 module _ (here : ExprNodes) where
-  -- primary = this | super selector | literal | id | ListLit | MapLit | new Type [. id] Args | FunctionLiteral | ( Expr )
+  open here use {type, expr, arguments, literal}
+
+  -- primary: this | super selector | literal | id | listLiteral | mapLiteral | functionExpression
+  --     | newExpression | constObjectExpression | ( expression )
+  -- newExpression: new type [. id] arguments (16.12.1 New)
+  -- constObjectExpression: const type [. id] arguments (16.12.2 Const)
   abbrev pub primary_of : Phrase Primary
-  primary_of = either (made primary_tokens t.atom atom)
-      (either (made primary_tokens t.text (strings here.expr))
-      (either (made primary_tokens (λ x. t.super_access x.0 x.1) (seq (word w.Super) (selector_of here)))
-      (either (made primary_tokens (λ x. t.new_object x.0 x.1.0 x.1.1.0 x.1.1.1) (seq (word w.New) (such type_takes_names (seq here.type (seq (opt dot_name) here.arguments)))))
-      (either (made primary_tokens (λ x. t.parenthesized x.0 x.1.0 x.1.1) (seq (sign s.LeftParenthesis) (seq here.expr (sign s.RightParenthesis))))
-      here.literal))))
+  primary_of = made primary_tokens t.atom atom
+      <|> made primary_tokens t.text (strings expr)
+      <|> made₂ primary_tokens t.super_access (word w.Super ~ selector_of here)
+      <|> made₄ primary_tokens t.new_object
+      (creation ~ such type_takes_names (type ~ opt dot_name ~ arguments))
+      <|> made₃ primary_tokens t.parenthesized
+      (sign s.LeftParenthesis ~ expr ~ sign s.RightParenthesis)
+      <|> literal
 
--- a node of one operator and its operand, and of operands with operators between them: one operator, or any number
+-- a node of one operator and its operand, and of operands with operators between them: one
+-- operator, or any number
 abbrev pub prefixed : Phrase Operator → Phrase Operand → Phrase Operand
-prefixed operator operand = made operand_tokens (λ x. t.prefix x.0 x.1) (seq operator operand)
+prefixed operator operand = made₂ operand_tokens t.prefix (operator ~ operand)
 
-abbrev pub once : Phrase Operand → Phrase Operator → Phrase Operand → Phrase Operand
-once first operator operand = made operand_tokens (λ x. t.binary x.0 (t.tail x.1.0 x.1.1 t.no_tails)) (seq first (seq operator operand))
+abbrev pub once : (Operand → Bool) → Phrase Operand → Phrase Operator → Phrase Operand →
+    Phrase Operand
+once may first operator operand =
+    made₃ operand_tokens (λ x sign y. t.binary x (t.tail sign y t.no_tails))
+    (seq_if may first (operator ~ operand))
 
-abbrev pub chain : Phrase Operand → Phrase Operator → Phrase Operand → Phrase Operand
-chain first operator operand = made operand_tokens (λ x. t.binary x.0 (t.tail x.1.0.0 x.1.0.1 (to_tails x.1.1))) (seq first (some (seq operator operand)))
+abbrev pub chain : ℕ → Phrase Operand → Phrase Operator → Phrase Operand → Phrase Operand
+chain next first operator operand = made₂ operand_tokens (λ x more. t.binary x (to_tails more))
+    (seq_if (leaves next) first (some_if (λ x. leaves next x.1) (operator ~ operand)))
 
--- << | > >
+-- shiftOperator: << | > > (16.26 Shift)
 abbrev pub shifting : Phrase Operator
-shifting = either (one_of (s.ShiftLeft ∷ [])) (made operator_tokens (λ x. o.ShiftRight x.0 x.1) (seq (sign s.Greater) (sign s.Greater)))
+shifting = one_of (s.ShiftLeft ∷ [])
+    <|> made₂ operator_tokens o.ShiftRight (sign s.Greater ~ sign s.Greater)
 
--- primary {selector} [++ | --], where an operator wants a target
+-- primary selector {selector}
+abbrev pub selected_over : Levels → Phrase (Primary × (Selector × List Selector))
+selected_over under =
+    seq_if (primary_leaves opens_dot) under.primary (member ~ many (member <|> under.bracketed))
+    <|> seq_if (primary_leaves opens_nothing) under.primary
+    (under.bracketed ~ many (member <|> under.bracketed))
+
+-- incrementOperator: ++ | --
+abbrev pub steps : Phrase Operator
+steps = one_of (s.PlusPlus ∷ s.MinusMinus ∷ [])
+
+-- postfixExpression: primary {selector} | assignableExpression incrementOperator
+-- (16.31 Postfix Expressions)
 abbrev pub postfix_over : Levels → Phrase Operand
-postfix_over under = either
-    (made operand_tokens (λ x. t.postfix x.0 (one_or_more_selectors x.1) None) (seq under.primary (some under.selector)))
-    (made operand_tokens (λ x. t.postfix x.0.0 (to_selectors x.0.1) (Some x.1)) (seq_if is_target (seq under.primary (many under.selector)) (one_of (s.PlusPlus ∷ s.MinusMinus ∷ []))))
+postfix_over under =
+    made₂ operand_tokens (λ x more. t.postfix x (one_or_more_selectors more) None)
+    (selected_over under)
+    <|> made₂ operand_tokens (λ x operator. t.postfix x t.no_selectors (Some operator))
+    (seq_if primary_assigns under.primary steps)
+    <|> made₂ operand_tokens
+    (λ x operator. t.postfix x.0 (one_or_more_selectors x.1) (Some operator))
+    (seq_if ends_in_target (selected_over under) steps)
 
--- the same as a target
+-- assignableExpression: id | primary {selector} (. id | [ expression ])
+--     | super (. id | [ expression ]) (16.32 Assignable Expressions)
 abbrev pub target_of : Phrase Primary → Levels → Phrase Operand
-target_of primary under = either (made operand_tokens t.primary (such primary_assigns primary))
-    (made operand_tokens (λ x. t.postfix x.0 (one_or_more_selectors x.1) None) (such ends_in_target (seq under.primary (some under.selector))))
+target_of primary under = made operand_tokens t.primary (such primary_assigns primary)
+    <|> made₂ operand_tokens (λ x more. t.postfix x (one_or_more_selectors more) None)
+    (such ends_in_target (selected_over under))
 
--- (- | ! | ~ | ++ | --) Unary
+-- unaryExpression: (- | ~) unaryExpression | (- | ~) super | ! unaryExpression
+--     | incrementOperator assignableExpression (16.29 Unary Expressions)
 abbrev pub unary_over : Phrase Operand → Levels → Phrase Operand
-unary_over bare under = either (prefixed (one_of (s.Minus ∷ s.Tilde ∷ [])) (either under.unary bare))
-    (either (prefixed (one_of (s.Bang ∷ [])) under.unary) (prefixed (one_of (s.PlusPlus ∷ s.MinusMinus ∷ [])) under.target))
+unary_over bare under = prefixed (one_of (s.Minus ∷ s.Tilde ∷ [])) (under.row 0 <|> bare)
+    <|> prefixed (one_of (s.Bang ∷ [])) (under.row 0)
+    <|> prefixed steps under.target
 
--- one < > <= >= with an operand, or is [!] Type, or as Type
-abbrev pub relational_over : ExprNodes → Levels → Phrase Operand
-relational_over inner under = either (once (either under.bit_or inner.bare) (one_of (s.Less ∷ s.Greater ∷ s.LessEqual ∷ s.GreaterEqual ∷ [])) under.bit_or)
-    (either (made operand_tokens (λ x. t.is_type x.0 x.1.0 x.1.1.0 x.1.1.1) (seq under.bit_or (seq (word w.Is) (seq (opt (sign s.Bang)) inner.type))))
-    (made operand_tokens (λ x. t.as_type x.0 x.1.0 x.1.1) (seq under.bit_or (seq (word w.As) inner.type))))
+-- relationalExpression: (bitwiseOrExpression | super) relationalOperator bitwiseOrExpression
+--     | bitwiseOrExpression (is [!] type | as type) (16.24 Relational Expressions, 16.34 Type Test,
+--     16.35 Type Cast); `<` behind a type's name opens its arguments
+abbrev pub relational_over : ExprNodes → Phrase Operand → Phrase Operand
+relational_over inner under =
+    once leaves_less (under <|> inner.bare) (one_of (s.Less ∷ [])) under
+    <|> once (leaves compares) (under <|> inner.bare)
+    (one_of (s.Greater ∷ s.LessEqual ∷ s.GreaterEqual ∷ [])) under
+    <|> made₄ operand_tokens t.is_type
+    (seq_if (leaves compares) under (word w.Is ~ opt (sign s.Bang) ~ inner.type))
+    <|> made₃ operand_tokens t.as_type (seq_if (leaves compares) under (word w.As ~ inner.type))
 
--- Cond = Or [? Expr : Expr]
-abbrev pub conditional_over : ExprNodes → Levels → Phrase Operand
-conditional_over inner under = made operand_tokens (λ x. t.conditional x.0 x.1.0 x.1.1.0 x.1.1.1.0 x.1.1.1.1)
-    (seq under.logical_or (seq (sign s.Question) (seq inner.without (seq (sign s.Colon) inner.without))))
+-- conditionalExpression: logicalOrExpression ? expressionWithoutCascade : expressionWithoutCascade
+-- (16.20 Conditional)
+abbrev pub conditional_over : ExprNodes → Phrase Operand → Phrase Operand
+conditional_over inner under = made₅ operand_tokens t.conditional
+    (seq_if (leaves question) under
+    (sign s.Question ~ inner.without ~ sign s.Colon ~ inner.without))
 
--- the levels over the nodes of the same depth, and over the nodes and levels that are one node less deep: each level is
--- the next one, or a node with its operators
+-- ---- the rows of operators, from those that bind most tightly
+
+pub data Row : Type 0 where
+  -- any number of operators of these signs; `super` may be the first operand
+  chained : Sign → List Sign → Row
+  -- any number of `<<` and `> >`, likewise
+  shifts : Row
+  -- one operator of these signs, likewise
+  single : Sign → List Sign → Row
+  -- `<`, `>`, `<=`, `>=`, `is` and `as`
+  comparison : Row
+  -- any number of this sign, without `super`
+  logical : Sign → Row
+  -- `?` and `:`
+  choice : Row
+  no_row : Row
+
+-- multiplicativeExpression, additiveExpression, shiftExpression, bitwiseAndExpression,
+-- bitwiseXorExpression, bitwiseOrExpression, relationalExpression, equalityExpression,
+-- logicalAndExpression, logicalOrExpression and conditionalExpression (16.28 back to 16.20)
+abbrev pub rows : List Row
+rows =
+    chained s.Star (s.Slash ∷ s.TildeSlash ∷ s.Percent ∷ [])
+    ∷ chained s.Plus (s.Minus ∷ [])
+    ∷ shifts
+    ∷ chained s.Ampersand []
+    ∷ chained s.Caret []
+    ∷ chained s.Bar []
+    ∷ comparison
+    ∷ single s.EqualEqual (s.NotEqual ∷ [])
+    ∷ logical s.AndAnd
+    ∷ logical s.OrOr
+    ∷ choice
+    ∷ []
+
+abbrev pub row_at : List Row → ℕ → Row
+row_at [] i = no_row
+row_at (row ∷ more) zero = row
+row_at (row ∷ more) (suc i) = row_at more i
+
+-- a node with operators of a row, over operands that bind more tightly and are one node less deep
+abbrev pub row_over : Row → ExprNodes → Phrase Operand → Phrase Operand
+row_over (chained sign more) inner under =
+    chain (sign_level sign) (under <|> inner.bare) (one_of (sign ∷ more)) under
+row_over shifts inner under = chain (sign_level s.ShiftLeft) (under <|> inner.bare) shifting under
+row_over (single sign more) inner under =
+    once (leaves (sign_level sign)) (under <|> inner.bare) (one_of (sign ∷ more)) under
+row_over comparison inner under = relational_over inner under
+row_over (logical sign) inner under = chain (sign_level sign) under (one_of (sign ∷ [])) under
+row_over choice inner under = conditional_over inner under
+row_over no_row inner under = no_room operand_tokens
+
+-- an operand of the row below, or a node with operators of this one
+abbrev pub rows_over : Phrase Operand → ExprNodes → (ℕ → Phrase Operand) → ℕ → Phrase Operand
+rows_over unary inner under zero = unary
+rows_over unary inner under (suc i) =
+    rows_over unary inner under i <|> row_over (row_at rows i) inner (under i)
+
+-- conditionalExpression, with all that binds more tightly
+abbrev pub conditional : Levels → Phrase Operand
+conditional levels = levels.row (length rows)
+
+-- the levels over the nodes of the same depth, and over the nodes and levels that are one node less
+-- deep
 abbrev pub levels_over : ExprNodes → ExprNodes → Levels → Levels
 levels_over here inner under =
     let primary = primary_of here in
-    let postfix = either (made operand_tokens t.primary primary) (postfix_over under) in
-    let unary = either postfix (unary_over inner.bare under) in
-    let product = either unary (chain (either under.unary inner.bare) (one_of (s.Star ∷ s.Slash ∷ s.TildeSlash ∷ s.Percent ∷ [])) under.unary) in
-    let sum = either product (chain (either under.product inner.bare) (one_of (s.Plus ∷ s.Minus ∷ [])) under.product) in
-    let shift = either sum (chain (either under.sum inner.bare) shifting under.sum) in
-    let bit_and = either shift (chain (either under.shift inner.bare) (one_of (s.Ampersand ∷ [])) under.shift) in
-    let bit_xor = either bit_and (chain (either under.bit_and inner.bare) (one_of (s.Caret ∷ [])) under.bit_and) in
-    let bit_or = either bit_xor (chain (either under.bit_xor inner.bare) (one_of (s.Bar ∷ [])) under.bit_xor) in
-    let relational = either bit_or (relational_over inner under) in
-    let equality = either relational (once (either under.relational inner.bare) (one_of (s.EqualEqual ∷ s.NotEqual ∷ [])) under.relational) in
-    let logical_and = either equality (chain under.equality (one_of (s.AndAnd ∷ [])) under.equality) in
-    let logical_or = either logical_and (chain under.logical_and (one_of (s.OrOr ∷ [])) under.logical_and) in
+    let postfix = made operand_tokens t.primary primary <|> postfix_over under in
     record {
       primary = primary;
-      selector = selector_of here;
+      bracketed = bracketed_of here;
       target = target_of primary under;
       postfix = postfix;
-      unary = unary;
-      product = product;
-      sum = sum;
-      shift = shift;
-      bit_and = bit_and;
-      bit_xor = bit_xor;
-      bit_or = bit_or;
-      relational = relational;
-      equality = equality;
-      logical_and = logical_and;
-      logical_or = logical_or;
-      conditional = either logical_or (conditional_over inner under);
+      row = rows_over (postfix <|> unary_over inner.bare under) inner under.row;
     }
 
 -- where there is no room for a node: an operand is a primary
@@ -333,19 +443,31 @@ flat_levels here =
     let operand = made operand_tokens t.primary primary in
     record {
       primary = primary;
-      selector = selector_of here;
+      bracketed = bracketed_of here;
       target = made operand_tokens t.primary (such primary_assigns primary);
       postfix = operand;
-      unary = operand;
-      product = operand;
-      sum = operand;
-      shift = operand;
-      bit_and = operand;
-      bit_xor = operand;
-      bit_or = operand;
-      relational = operand;
-      equality = operand;
-      logical_and = operand;
-      logical_or = operand;
-      conditional = operand;
+      row = λ i. operand;
     }
+
+-- ---- expressions
+
+-- conditionalExpression {cascadeSection}
+abbrev pub cascaded_over : ExprNodes → Levels →
+    Phrase (Operand × List (Place × (Selectors × Value)))
+cascaded_over inner levels = conditional levels ~ exactly (flat_map inner.cascade.spelling) []
+    <|> seq_if (leaves dots) (conditional levels) (some_if leaves_cascade inner.cascade)
+
+-- expression: assignableExpression assignmentOperator expression
+--     | conditionalExpression {cascadeSection} | throw expression (16 Expressions)
+abbrev pub expr_over : ExprNodes → Levels → Phrase Expr
+expr_over inner levels = made₃ expr_tokens t.assign (levels.target ~ assigning ~ inner.expr)
+    <|> made₂ expr_tokens (λ x cascades. t.plain x (to_cascades cascades))
+    (cascaded_over inner levels)
+    <|> made₂ expr_tokens t.throw (word w.Throw ~ inner.expr)
+
+-- expressionWithoutCascade: assignableExpression assignmentOperator expressionWithoutCascade
+--     | conditionalExpression | throw expression
+abbrev pub without_over : ExprNodes → Levels → Phrase Expr
+without_over inner levels = made₃ expr_tokens t.assign (levels.target ~ assigning ~ inner.without)
+    <|> made expr_tokens (λ x. t.plain x t.no_cascades) (conditional levels)
+    <|> made₂ expr_tokens t.throw (word w.Throw ~ inner.expr)

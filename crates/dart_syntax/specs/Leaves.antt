@@ -15,11 +15,12 @@ use Rattle.dart_tree.specs.declared.identifier.Label.{Label}
 use Rattle.dart_tree.specs.declared.operator.Operator.{Operator}
 use Rattle.dart_tree.specs.declared.operator.Operator.TheVariants as o
 use Rattle.dart_tree.specs.declared.expression.Atom.{Atom}
+use Rattle.dart_tree.specs.declared.expression.Creation.{Creation}
 use Rattle.dart_tree.specs.declared.expression.PieceKind.{PieceKind}
 use Rattle.dart_tree.specs.declared.parameter.ThisDot.{ThisDot}
-use Rattle.dart_tree.specs.LeafTokens.{sign_at, word_at, operator_tokens, dot_name_tokens, identifier_tokens, atom_tokens, label_tokens, piece_token, maybe_this}
+use Rattle.dart_tree.specs.LeafTokens.{sign_at, word_at, operator_tokens, dot_name_tokens, identifier_tokens, atom_tokens, creation_token, label_tokens, piece_token, maybe_this}
 pub use Rattle.dart_tree.specs.UnitTokens.{comma_name_tokens}
-use Rattle.dart_syntax.specs.Phrases.{Phrase, leaf, seq, many, either, made, no_room}
+use Rattle.dart_syntax.specs.Phrases.{Phrase, ◌~◌, ◌<|>◌, leaf, many, made, made₂, no_room}
 
 abbrev pub sign_tokens : Sign → Place → List Token
 sign_tokens which place = sign_at place which ∷ []
@@ -45,19 +46,31 @@ identifier = leaf identifier_tokens
 
 -- the name of a class, an alias, a type parameter or a prefix, which is not `get` or `set`
 abbrev pub plain_identifier : Phrase Identifier
-plain_identifier = made identifier_tokens (λ (x : Place × List ℕ). i.Name x.0 x.1) (leaf (λ x. identifier_tokens (i.Name x.0 x.1)))
+plain_identifier = made₂ identifier_tokens i.Name (leaf (λ x. identifier_tokens (i.Name x.0 x.1)))
 
 abbrev pub atom : Phrase Atom
 atom = leaf atom_tokens
 
-abbrev pub dot_name : Phrase DotName
-dot_name = made dot_name_tokens (λ x. record { dot = x.0; name = x.1 }) (seq (sign s.Dot) identifier)
+-- new | const
+abbrev pub creation_tokens : Creation → List Token
+creation_tokens x = creation_token x ∷ []
 
+abbrev pub creation : Phrase Creation
+creation = leaf creation_tokens
+
+abbrev pub dot_name : Phrase DotName
+dot_name = made₂ dot_name_tokens (λ dot name. record { dot = dot; name = name })
+    (sign s.Dot ~ identifier)
+
+-- label: id : (17.13 Labels)
 abbrev pub label : Phrase Label
-label = made label_tokens (λ x. record { name = x.0; colon = x.1 }) (seq identifier (sign s.Colon))
+label = made₂ label_tokens (λ name colon. record { name = name; colon = colon })
+    (identifier ~ sign s.Colon)
 
 abbrev pub comma_name : Phrase CommaName
-comma_name = made comma_name_tokens (λ x. record { comma = x.0; name = x.1 }) (seq (sign s.Comma) identifier)
+comma_name =
+    made₂ comma_name_tokens (λ comma name. record { comma = comma; name = name })
+    (sign s.Comma ~ identifier)
 
 -- a piece of a string, with its text
 abbrev pub piece : PieceKind → Phrase (Place × List ℕ)
@@ -70,11 +83,11 @@ this_dot_tokens x = maybe_this (Some x)
 -- an operator of one sign, one of these
 abbrev pub one_of : List Sign → Phrase Operator
 one_of [] = no_room operator_tokens
-one_of (x ∷ xs) = either (made operator_tokens (λ place. o.Sign place x) (sign x)) (one_of xs)
+one_of (x ∷ more) = made operator_tokens (λ place. o.Sign place x) (sign x) <|> one_of more
 
 -- items with commas between them
 abbrev pub commas : {A : Type 0} → Phrase A → Phrase (A × List (Place × A))
-commas p = seq p (many (seq (sign s.Comma) p))
+commas p = p ~ many (sign s.Comma ~ p)
 
 -- the list begins with no opening brace
 abbrev pub is_no_brace : TokenKind → Bool

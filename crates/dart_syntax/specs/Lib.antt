@@ -1,10 +1,11 @@
 pub mod Phrases
 pub mod Leaves
 pub mod Types
+pub mod Levels
+pub mod Edges
 pub mod Expressions
 pub mod Statements
 pub mod Declarations
 pub mod Units
-pub mod Reaches
 pub mod Syntax
 pub mod Agreement

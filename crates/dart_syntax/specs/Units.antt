@@ -10,71 +10,95 @@ use Rattle.dart_tree.specs.declared.unit.Prefix.{Prefix}
 use Rattle.dart_tree.specs.Unit as d
 use Rattle.dart_tree.specs.Unit.{Combinator, DirectiveKind, Directive, Decl, UnitTree}
 use Rattle.dart_tree.specs.UnitTokens.{of_text, combinator_text, combinator_tokens, prefix_tokens, directive_kind_tokens, directive_tokens, unit_tokens}
-use Rattle.dart_syntax.specs.Phrases.{Phrase, seq, opt, many, either, made, no_room}
+use Rattle.dart_syntax.specs.Phrases.{Phrase, ◌~◌, ◌<|>◌, opt, many, made₂, made₃, made₄, no_room}
 use Rattle.dart_syntax.specs.Leaves.{sign, word, named, identifier, plain_identifier, dot_name, comma_name}
 use Rattle.dart_syntax.specs.Expressions.{ExprNodes, strings}
 use Rattle.dart_syntax.specs.Statements.{within, metadata_of}
 use Rattle.dart_syntax.specs.Declarations.{decl_within}
 
--- id {. id}
+-- dottedIdentifierList: id {. id}
 abbrev pub dotted : Phrase (Identifier × List DotName)
-dotted = seq identifier (many dot_name)
+dotted = identifier ~ many dot_name
 
--- (show | hide) id {, id}
+-- combinator: (show | hide) id {, id} (18.1 Imports)
 abbrev pub combinator_as : CombinatorKind → Phrase Combinator
-combinator_as kind = made combinator_tokens (λ x. record { kind = kind; word = x.0; first = x.1.0; more = x.1.1 }) (seq (named (combinator_text kind)) (seq identifier (many comma_name)))
+combinator_as kind = made₃ combinator_tokens
+    (λ word first more. record { kind = kind; word = word; first = first; more = more })
+    (named (combinator_text kind) ~ identifier ~ many comma_name)
 
 abbrev pub combinator : Phrase Combinator
-combinator = either (combinator_as k.Show) (combinator_as k.Hide)
+combinator = combinator_as k.Show <|> combinator_as k.Hide
 
 -- as id
 abbrev pub prefix : Phrase Prefix
-prefix = made prefix_tokens (λ x. record { word = x.0; name = x.1 }) (seq (word w.As) plain_identifier)
+prefix = made₂ prefix_tokens (λ word name. record { word = word; name = name })
+    (word w.As ~ plain_identifier)
 
 module _ (inner : ExprNodes) where
+  open inner use {expr}
+
   -- metadata before what a directive says, and a semicolon behind it
   abbrev pub directive_over : Phrase DirectiveKind → Phrase Directive
-  directive_over kind = made directive_tokens (λ x. record { metadata = x.0; kind = x.1.0; semicolon = x.1.1 }) (seq (metadata_of inner) (seq kind (sign s.Semicolon)))
+  directive_over kind = made₃ directive_tokens
+      (λ metadata kind semicolon. record {
+        metadata = metadata;
+        kind = kind;
+        semicolon = semicolon;
+      })
+      (metadata_of inner ~ kind ~ sign s.Semicolon)
 
-  -- PartOf = meta part of id {. id} ;
+  -- partHeader: metadata part of id {. id} ; (18.3 Parts)
   abbrev pub part_of_over : Phrase Directive
-  part_of_over = directive_over (made directive_kind_tokens (λ x. d.part_of_directive x.0 x.1.0 x.1.1.0 x.1.1.1) (seq (word w.Part) (seq (named of_text) dotted)))
+  part_of_over =
+      directive_over
+      (made₄ directive_kind_tokens d.part_of_directive (word w.Part ~ named of_text ~ dotted))
 
-  -- LibName = meta library id {. id} ;
+  -- libraryName: metadata library dottedIdentifierList ; (18 Libraries and Scripts)
   abbrev pub library_over : Phrase Directive
-  library_over = directive_over (made directive_kind_tokens (λ x. d.library_directive x.0 x.1.0 x.1.1) (seq (word w.Library) dotted))
+  library_over =
+      directive_over (made₃ directive_kind_tokens d.library_directive (word w.Library ~ dotted))
 
-  -- Import = meta import string [as id] {comb} ;
+  -- libraryImport: metadata import uri [as id] {combinator} ; (18.1 Imports)
+  -- uri: stringLiteral (18.5 URIs)
   abbrev pub import_over : Phrase Directive
-  import_over = directive_over (made directive_kind_tokens (λ x. d.import_directive x.0 x.1.0 x.1.1.0 x.1.1.1) (seq (word w.Import) (seq (strings inner.expr) (seq (opt prefix) (many combinator)))))
+  import_over = directive_over (made₄ directive_kind_tokens d.import_directive
+      (word w.Import ~ strings expr ~ opt prefix ~ many combinator))
 
-  -- Export = meta export string {comb} ;
+  -- libraryExport: metadata export uri {combinator} ; (18.2 Exports)
   abbrev pub export_over : Phrase Directive
-  export_over = directive_over (made directive_kind_tokens (λ x. d.export_directive x.0 x.1.0 x.1.1) (seq (word w.Export) (seq (strings inner.expr) (many combinator))))
+  export_over = directive_over (made₃ directive_kind_tokens d.export_directive
+      (word w.Export ~ strings expr ~ many combinator))
 
-  -- Part = meta part string ;
+  -- partDirective: metadata part stringLiteral ; (18.3 Parts)
   abbrev pub part_over : Phrase Directive
-  part_over = directive_over (made directive_kind_tokens (λ x. d.part_directive x.0 x.1) (seq (word w.Part) (strings inner.expr)))
+  part_over =
+      directive_over (made₂ directive_kind_tokens d.part_directive (word w.Part ~ strings expr))
 
 -- a directive with at most so many nodes above one another
 abbrev pub directive_within : (ExprNodes → Phrase Directive) → ℕ → Phrase Directive
 directive_within over zero = no_room directive_tokens
 directive_within over (suc n) = over (within n).nodes.expr_nodes
 
+-- importOrExport: libraryImport | libraryExport
 abbrev pub imports_and_exports : ExprNodes → Phrase Directive
-imports_and_exports inner = either (import_over inner) (export_over inner)
+imports_and_exports inner = import_over inner <|> export_over inner
 
 abbrev pub optional : Option Directive → List Directive
 optional None = []
 optional (Some x) = x ∷ []
 
--- the directives and declarations of a unit, over what is one node less deep
--- Unit = PartOf {Decl} | [LibName] {Import | Export} {Part} {Decl}
+-- partDeclaration: partHeader {topLevelDefinition}
+-- libraryDefinition: [libraryName] {importOrExport} {partDirective} {topLevelDefinition}, over what
+-- is one node less deep (18 Libraries and Scripts)
 abbrev pub unit_over : ℕ → Phrase UnitTree
-unit_over n = either
-    (made unit_tokens (λ x. record { directives = x.0 ∷ []; declarations = x.1 }) (seq (directive_within part_of_over n) (many (decl_within n))))
-    (made unit_tokens (λ x. record { directives = optional x.0 ++ (x.1.0 ++ x.1.1.0); declarations = x.1.1.1 })
-    (seq (opt (directive_within library_over n)) (seq (many (directive_within imports_and_exports n)) (seq (many (directive_within part_over n)) (many (decl_within n))))))
+unit_over n =
+    made₂ unit_tokens
+    (λ header declarations. record { directives = header ∷ []; declarations = declarations })
+    (directive_within part_of_over n ~ many (decl_within n))
+    <|> made₄ unit_tokens (λ name imports parts declarations.
+    record { directives = optional name ++ (imports ++ parts); declarations = declarations })
+    (opt (directive_within library_over n) ~ many (directive_within imports_and_exports n)
+    ~ many (directive_within part_over n) ~ many (decl_within n))
 
 -- a unit with at most so many nodes above one another
 unfoldable pub unit_within : ℕ → Phrase UnitTree
