@@ -21,3 +21,5 @@ pub mod Monotone
 pub mod Statements
 pub mod Steps
 pub mod Turns
+pub mod Exact
+pub mod TriedAlike
