@@ -6,20 +6,22 @@ use Rattle.dart_token.specs.declared.sign.Sign.{Sign}
 use Rattle.dart_token.specs.declared.sign.Sign.TheVariants as s
 use Rattle.dart_tree.specs.declared.parameter.BracketKind.{BracketKind}
 use Rattle.dart_tree.specs.declared.parameter.BracketKind.TheVariants as b
-use Rattle.dart_tree.specs.Tree as t
-use Rattle.dart_tree.specs.Tree.{Arguments}
 use Rattle.dart_tree.specs.Tokens.{arguments_tokens, parameters_tokens, parameter_list_tokens}
 use Rattle.dart_syntax.specs.Phrases.{Phrase, seq, either, made}
 use Rattle.dart_syntax.specs.Leaves.{sign, sign_tokens}
 use Rattle.dart_syntax.specs.Expressions.{ExprNodes, arguments_over}
 use Rattle.dart_syntax.specs.Statements.{StmtNodes, bracketed_over, parameters_over, nodes_over, within}
 use Rattle.dart_syntax.proofs.AgreeingExpressions.{said_sign}
+use Rattle.syntax_measures.specs.Relations.{ExprsRelate, StmtsRelate, WithinRelate}
 use Rattle.syntax_measures.proofs.Scanning.{State, inside, named, called, scan, scan_append, is_plain, sign_class}
-use Rattle.syntax_measures.proofs.Balancing.{Balances, perhaps_balances}
-use Rattle.syntax_measures.proofs.BalancingRecords.{ExprsBalance, StmtsBalance}
-use Rattle.syntax_measures.proofs.BalancingExpressions.{argument_items_balance}
-use Rattle.syntax_measures.proofs.BalancingStatements.{required_balances, required_before_balances, optional_balances}
-use Rattle.syntax_measures.proofs.BalancingStages.{within_balances}
+use Rattle.syntax_measures.proofs.WalkExpressions.{walk_argument_items}
+use Rattle.syntax_measures.proofs.WalkStatements.{walk_no_or_required, walk_required_before, walk_optional}
+use Rattle.syntax_measures.proofs.WalkStages.{still_at_same, walk_within}
+use Rattle.syntax_measures.proofs.Balances.{Balances, balances, balances_walk}
+
+-- what stands within a depth is balanced
+within_balances : (n : ℕ) → WithinRelate (balances n) (within n) (within n)
+within_balances n = walk_within balances_walk still_at_same n n refl
 
 -- from behind a name and `(` to behind the `)` for it
 pub record Ends {A : Type 0} (tokens : A → List Token) (p : Phrase A) : Type 0 where
@@ -55,27 +57,27 @@ module _ {A : Type 0} {tokens : A → List Token} {p q : Phrase A} (P : Calls to
 
 -- ---- arguments and parameters
 
-arguments_over_call : {inner : ExprNodes} → ExprsBalance inner → Calls arguments_tokens (arguments_over inner)
+arguments_over_call : (n : ℕ) {inner : ExprNodes} → ExprsRelate (balances n) inner inner → Calls arguments_tokens (arguments_over inner)
 unfolding arguments_tokens
-arguments_over_call I = made_calls arguments_tokens _ (left_calls (seq_ends (argument_items_balance I) right_ends)) (λ x fits. refl)
+arguments_over_call n I = made_calls arguments_tokens _ (left_calls (seq_ends (walk_argument_items balances_walk {m = n} I) right_ends)) (λ x fits. refl)
 
-module _ {inner : StmtNodes} (I : StmtsBalance inner) where
+module _ (n : ℕ) {inner : StmtNodes} (I : StmtsRelate (balances n) inner inner) where
   bracketed_call : (kind : BracketKind) (before : Sign) → is_plain (sign_class before) ≡ true → Calls parameters_tokens (bracketed_over inner kind before)
   unfolding parameters_tokens
-  bracketed_call kind before plain = made_calls parameters_tokens _ (left_calls (seq_ends (required_before_balances I) (seq_ends (optional_balances I kind before plain) right_ends))) (λ x fits. simp (said_sign, append_assoc))
+  bracketed_call kind before plain = made_calls parameters_tokens _ (left_calls (seq_ends (walk_required_before balances_walk {m = n} I) (seq_ends (walk_optional balances_walk {m = n} I kind before plain) right_ends))) (λ x fits. simp (said_sign, append_assoc))
 
   parameters_over_call : Calls parameters_tokens (parameters_over inner)
   unfolding parameters_tokens parameter_list_tokens
   parameters_over_call = either_calls
-      (made_calls parameters_tokens _ (left_calls (seq_ends (perhaps_balances t.no_parameters refl (required_balances I)) right_ends)) (λ x fits. refl))
+      (made_calls parameters_tokens _ (left_calls (seq_ends (walk_no_or_required balances_walk {m = n} I) right_ends)) (λ x fits. refl))
       (either_calls (bracketed_call b.Square s.Assign refl) (bracketed_call b.Curly s.Colon refl))
 
 pub arguments_call : (n : ℕ) → Calls arguments_tokens (within n).nodes.expr_nodes.arguments
 unfolding within nodes_over
 arguments_call zero = record { call = λ a fits. absurd fits }
-arguments_call (suc n) = arguments_over_call (within_balances n).nodes.expr_nodes
+arguments_call (suc n) = arguments_over_call n (within_balances n).nodes.expr_nodes
 
 pub parameters_call : (n : ℕ) → Calls parameters_tokens (within n).nodes.expr_nodes.parameters
 unfolding within nodes_over
 parameters_call zero = record { call = λ a fits. absurd fits }
-parameters_call (suc n) = parameters_over_call (within_balances n).nodes
+parameters_call (suc n) = parameters_over_call n (within_balances n).nodes

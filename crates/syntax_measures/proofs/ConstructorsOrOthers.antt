@@ -27,6 +27,7 @@ pub data Part : Type 0 where
   left : Part
   external : Part
   factory : Part
+  constant : Part
   other : Part
 
 abbrev pub part_of : TokenKind → Part
@@ -35,6 +36,7 @@ part_of (tk.Word w.Get) = name
 part_of (tk.Word w.Set) = name
 part_of (tk.Word w.External) = external
 part_of (tk.Word w.Factory) = factory
+part_of (tk.Word w.Const) = constant
 part_of (tk.Sign s.Dot) = dot
 part_of (tk.Sign s.LeftParenthesis) = left
 part_of x = other
@@ -49,12 +51,18 @@ pub data Shape : Type 0 where
   behind_second : Shape
   built : Shape
   built_by_factory : Shape
+  behind_const : Shape
+  const_name : Shape
+  const_dot : Shape
+  const_second : Shape
+  built_constant : Shape
   otherwise : Shape
 
 abbrev pub build : Shape → Part → Shape
 build begun name = behind_name
 build begun external = behind_external
 build begun factory = built_by_factory
+build begun constant = behind_const
 build begun x = otherwise
 build behind_external factory = built_by_factory
 build behind_external x = otherwise
@@ -65,6 +73,16 @@ build behind_dot name = behind_second
 build behind_dot x = otherwise
 build behind_second left = built
 build behind_second x = otherwise
+build behind_const name = const_name
+build behind_const x = otherwise
+build const_name left = built_constant
+build const_name dot = const_dot
+build const_name x = otherwise
+build const_dot name = const_second
+build const_dot x = otherwise
+build const_second left = built_constant
+build const_second x = otherwise
+build built_constant x = built_constant
 build built x = built
 build built_by_factory x = built_by_factory
 build otherwise x = otherwise
@@ -107,18 +125,38 @@ named_built : (x : ConstructorName) (given : Parameters) (rest : List Token) →
 named_built x given rest = ap (λ (l : List Token). shape begun l) (append_assoc (identifier_tokens x.class) (maybe_dot_name x.name) (parameters_tokens given ++ rest))
     ∙ name_then x.class begun (maybe_dot_name x.name ++ (parameters_tokens given ++ rest)) ∙ dotted_built x.name given rest
 
--- with a factory's word, or without one
+constant_stays : (xs : List Token) → shape built_constant xs ≡ built_constant
+constant_stays [] = refl
+constant_stays (x ∷ xs) = constant_stays xs
+
+parameters_constant : (z : Shape) → build z left ≡ built_constant → (x : Parameters) (rest : List Token) → shape z (parameters_tokens x ++ rest) ≡ built_constant
+unfolding parameters_tokens
+parameters_constant z is (t.the_parameters opening required brackets optional closing) rest =
+    ap (λ (y : Shape). shape y ((parameter_list_tokens required ++ (opening_bracket brackets ++ (parameter_list_tokens optional ++ (closing_bracket brackets ++ sign_at closing s.RightParenthesis ∷ [])))) ++ rest)) is
+    ∙ constant_stays ((parameter_list_tokens required ++ (opening_bracket brackets ++ (parameter_list_tokens optional ++ (closing_bracket brackets ++ sign_at closing s.RightParenthesis ∷ [])))) ++ rest)
+
+dotted_constant : (o : Option DotName) (given : Parameters) (rest : List Token) → shape const_name (maybe_dot_name o ++ (parameters_tokens given ++ rest)) ≡ built_constant
+dotted_constant None given rest = parameters_constant const_name refl given rest
+dotted_constant (Some x) given rest = name_then x.name const_dot (parameters_tokens given ++ rest) ∙ parameters_constant const_second refl given rest
+
+pub constant_built : (x : ConstructorName) (given : Parameters) (rest : List Token) → shape behind_const (constructor_name_tokens x ++ (parameters_tokens given ++ rest)) ≡ built_constant
+constant_built x given rest = ap (λ (l : List Token). shape behind_const l) (append_assoc (identifier_tokens x.class) (maybe_dot_name x.name) (parameters_tokens given ++ rest))
+    ∙ name_then x.class behind_const (maybe_dot_name x.name ++ (parameters_tokens given ++ rest)) ∙ dotted_constant x.name given rest
+
+-- with a factory's word, with `const`, or with neither
 pub data Kind : Constructor → Type 0 where
   with_factory : {x : Constructor} → shape begun (constructor_tokens x) ≡ built_by_factory → Kind x
-  without_factory : {x : Constructor} → shape begun (constructor_tokens x) ≡ built → Kind x
+  with_const : {x : Constructor} → shape begun (constructor_tokens x) ≡ built_constant → Kind x
+  without : {x : Constructor} → shape begun (constructor_tokens x) ≡ built → Kind x
 
 pub factory_built : (external_word : Option Place) (word : Place) (rest : List Token) → shape begun (maybe_word external_word w.External ++ word_at word w.Factory ∷ rest) ≡ built_by_factory
 factory_built None word rest = factory_stays rest
 factory_built (Some place) word rest = factory_stays rest
 
 pub kind_of : (x : Constructor) → Kind x
-kind_of (d.generative x given inits body) = without_factory (named_built x given (tokens_if initializers_tokens inits ++ body_tokens body))
-kind_of (d.redirecting x given colon this another handed semicolon) = without_factory (named_built x given (sign_at colon s.Colon ∷ word_at this w.This ∷ (maybe_dot_name another ++ (arguments_tokens handed ++ sign_at semicolon s.Semicolon ∷ []))))
+kind_of (d.generative None x given inits body) = without (named_built x given (tokens_if initializers_tokens inits ++ body_tokens body))
+kind_of (d.generative (Some word) x given inits body) = with_const (constant_built x given (tokens_if initializers_tokens inits ++ body_tokens body))
+kind_of (d.redirecting x given colon this another handed semicolon) = without (named_built x given (sign_at colon s.Colon ∷ word_at this w.This ∷ (maybe_dot_name another ++ (arguments_tokens handed ++ sign_at semicolon s.Semicolon ∷ []))))
 kind_of (d.factory external_word word x given body) = with_factory (factory_built external_word word (constructor_name_tokens x ++ (parameters_tokens given ++ body_tokens body)))
 kind_of (d.redirecting_factory external_word word x given equals target another semicolon) = with_factory (factory_built external_word word (constructor_name_tokens x ++ (parameters_tokens given ++ sign_at equals s.Assign ∷ (type_tokens target ++ (maybe_dot_name another ++ sign_at semicolon s.Semicolon ∷ [])))))
 
@@ -157,6 +195,22 @@ result_external None t ts is = lead behind_external t ts is
 result_external (Some (void_result place)) t ts is = otherwise_stays (t ∷ ts)
 result_external (Some (typed_result y)) t ts is = type_external y (t ∷ ts)
 
+-- behind `const`
+const_arguments : (z : Shape) → build z other ≡ otherwise → (t : Token) (ts : List Token) → build z (part_of t.kind) ≡ otherwise → (given : TypeArguments) → shape z (type_arguments_tokens given ++ t ∷ ts) ≡ otherwise
+const_arguments z angle t ts is no_types = lead z t ts is
+const_arguments z angle t ts is (listed_types opening listed closing) = lead z (sign_at opening s.Less) ((type_list_tokens listed ++ sign_at closing s.Greater ∷ []) ++ t ∷ ts) angle
+
+const_type_then : (t : Token) (ts : List Token) → build const_name (part_of t.kind) ≡ otherwise → build const_second (part_of t.kind) ≡ otherwise → (y : TypeNode) → shape behind_const (type_tokens y ++ t ∷ ts) ≡ otherwise
+const_type_then t ts first then (dynamic_type place) = otherwise_stays (t ∷ ts)
+const_type_then t ts first then (named_type x None given) =
+    ap (λ (l : List Token). shape behind_const l) (append_assoc (identifier_tokens x) (type_arguments_tokens given) (t ∷ ts))
+    ∙ name_then x behind_const (type_arguments_tokens given ++ t ∷ ts) ∙ const_arguments const_name refl t ts first given
+const_type_then t ts first then (named_type x (Some o) given) =
+    ap (λ (l : List Token). shape behind_const l) (append_assoc (identifier_tokens x) (maybe_dot_name (Some o) ++ type_arguments_tokens given) (t ∷ ts)
+    ∙ ap (λ (l : List Token). identifier_tokens x ++ l) (append_assoc (maybe_dot_name (Some o)) (type_arguments_tokens given) (t ∷ ts)))
+    ∙ name_then x behind_const (maybe_dot_name (Some o) ++ (type_arguments_tokens given ++ t ∷ ts))
+    ∙ name_then o.name const_dot (type_arguments_tokens given ++ t ∷ ts) ∙ const_arguments const_second refl t ts then given
+
 -- a first token, for the three kinds of names
 named_by : (P : List Token → Type 0) → ((t : Token) (ts : List Token) → part_of t.kind ≡ name → P (t ∷ ts)) → (x : Identifier) (rest : List Token) → P (identifier_tokens x ++ rest)
 named_by P each (i.Name place text) rest = each _ rest refl
@@ -165,6 +219,13 @@ named_by P each (i.Set place) rest = each _ rest refl
 
 pub type_and_name : (y : ResultType) (x : Identifier) (rest : List Token) → shape begun (maybe_result (Some y) ++ (identifier_tokens x ++ rest)) ≡ otherwise
 type_and_name y x rest = named_by (λ l. shape begun (maybe_result (Some y) ++ l) ≡ otherwise) (λ t ts is. result_then t ts (ap (λ (c : Part). build behind_name c) is) (ap (λ (c : Part). build behind_second c) is) y) x rest
+
+pub const_type_and_name : (y : TypeNode) (x : Identifier) (rest : List Token) → shape behind_const (type_tokens y ++ (identifier_tokens x ++ rest)) ≡ otherwise
+const_type_and_name y x rest = named_by (λ l. shape behind_const (type_tokens y ++ l) ≡ otherwise) (λ t ts is. const_type_then t ts (ap (λ (c : Part). build const_name c) is) (ap (λ (c : Part). build const_second c) is) y) x rest
+
+-- a name of which no parenthesis and no dot follows
+pub const_name_then : (x : Identifier) (rest : List Token) → shape const_name rest ≡ otherwise → shape behind_const (identifier_tokens x ++ rest) ≡ otherwise
+const_name_then x rest is = name_then x behind_const rest ∙ is
 
 external_and_name : (y : Option ResultType) (x : Identifier) (rest : List Token) → shape behind_external (maybe_result y ++ (identifier_tokens x ++ rest)) ≡ otherwise
 external_and_name y x rest = named_by (λ l. shape behind_external (maybe_result y ++ l) ≡ otherwise) (λ t ts is. result_external y t ts (ap (λ (c : Part). build behind_external c) is)) x rest

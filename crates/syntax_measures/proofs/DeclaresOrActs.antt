@@ -7,18 +7,19 @@ use Rattle.dart_token.specs.declared.word.Word.TheVariants as w
 use Rattle.dart_tree.specs.declared.identifier.Identifier.{Identifier}
 use Rattle.dart_tree.specs.declared.identifier.Identifier.TheVariants as i
 use Rattle.dart_tree.specs.declared.identifier.DotName.{DotName}
-use Rattle.dart_tree.specs.LeafTokens.{sign_at, maybe_word, maybe_result, maybe_dot_name, identifier_tokens, type_tokens, type_arguments_tokens, type_list_tokens, kind_tokens}
+use Rattle.dart_tree.specs.LeafTokens.{sign_at, maybe_word, maybe_result, maybe_dot_name, maybe_type, identifier_tokens, type_tokens, type_arguments_tokens, type_list_tokens, kind_tokens}
 use Rattle.dart_tree.specs.Types.{TypeNode, TypeArguments, TypeList, ResultType, VariableKind, final_kind, dynamic_type, named_type, no_types, listed_types}
 use Rattle.dart_tree.specs.Tree as t
-use Rattle.dart_tree.specs.Tree.{Value, Stmt, Loop, Body, Variables, Function, Block}
+use Rattle.dart_tree.specs.Tree.{Expr, Value, Stmt, Loop, Body, Variables, Function, Block}
 use Rattle.dart_tree.specs.Tokens.{expr_tokens, value_tokens, stmt_tokens, loop_tokens, body_tokens, parameters_tokens, variables_tokens, function_tokens, block_tokens, stmts_tokens, more_variables_tokens}
 use Rattle.dart_syntax.specs.Phrases.{Phrase, opt}
-use Rattle.dart_syntax.specs.Types.{more_types, types, type_arguments, type_over, type_within, result_over, kind_over}
-use Rattle.dart_syntax.specs.Expressions.{maybe_expr}
-use Rattle.dart_syntax.specs.Statements.{StmtNodes, Within, more_variables, whole_body, variables_over, local_function_over, compound_over, jump_of, nodes_over, within}
-use Rattle.syntax_measures.specs.ByHeight.{declares, acts, DeclaresOrActs}
-use Rattle.syntax_measures.proofs.Scanning.{State, kind_class, name, begun, named, dotted, compared, second, second_dotted, closed, called, free, wrong, step, scan, scan_append, free_stays, wrong_stays, braced, braced_stays}
+use Rattle.dart_syntax.specs.Types.{more_types, types, type_arguments, type_over, type_within, result_over, kind_over, variables_kind_over}
+use Rattle.dart_syntax.specs.Expressions.{maybe_expr, after_sign}
+use Rattle.dart_syntax.specs.Statements.{StmtNodes, Within, more_variables, whole_body, variables_over, local_function_over, compound_over, jump_of, declaration_of, other_statement_of, nodes_over, within}
+use Rattle.syntax_measures.specs.Readings.{DeclaresOrActs}
+use Rattle.syntax_measures.proofs.Scanning.{State, kind_class, name, const_begun, typed, begun, named, dotted, compared, second, second_dotted, closed, called, free, wrong, step, scan, scan_append, free_stays, wrong_stays, braced, braced_stays}
 use Rattle.syntax_measures.proofs.Calling.{parameters_call}
+use Rattle.syntax_measures.proofs.ScanningOperands.{type_typed}
 use Rattle.syntax_measures.proofs.ScanningLevels.{loose_freed, expr_scans}
 
 -- ---- what the first token tells
@@ -100,9 +101,31 @@ module _ {p : Phrase TypeNode} (P : TypesWrong p) where
   kind_wrong y (inr (inl (parts, fits, is))) x rest = ap (λ (c : VariableKind). scan begun (kind_tokens c ++ (identifier_tokens x ++ rest))) (sym is) ∙ lead_wrong begun (kind_tokens (final_kind parts.0 parts.1) ++ (identifier_tokens x ++ rest)) _ _ refl refl
   kind_wrong y (inr (inr (inner, fits, is))) x rest = ap (λ (c : VariableKind). scan begun (kind_tokens c ++ (identifier_tokens x ++ rest))) (sym is) ∙ P.both inner fits x rest
 
+  -- behind `const` a name and no parenthesis are wrong too
+  const_wrong : (y : Option TypeNode) (x : Identifier) (rest : List Token) → scan typed rest ≡ wrong → scan const_begun (maybe_type y ++ (identifier_tokens x ++ rest)) ≡ wrong
+  const_wrong None x rest ends = name_then x const_begun rest ∙ ends
+  const_wrong (Some y) x rest ends = scan_append const_begun (type_tokens y) (identifier_tokens x ++ rest)
+      ∙ ap (λ (z : State). scan z (identifier_tokens x ++ rest)) (type_typed y) ∙ name_wrong x typed refl rest
+
+  variables_kind_wrong : (y : VariableKind) → (variables_kind_over p).Fits y → (x : Identifier) (rest : List Token) → scan typed rest ≡ wrong → scan begun (kind_tokens y ++ (identifier_tokens x ++ rest)) ≡ wrong
+  variables_kind_wrong y (inl fits) x rest ends = kind_wrong y fits x rest
+  variables_kind_wrong y (inr (parts, fits, is)) x rest ends = ap (λ (c : VariableKind). scan begun (kind_tokens c ++ (identifier_tokens x ++ rest))) (sym is) ∙ const_wrong parts.1 x rest ends
+
   result_wrong : (y : ResultType) → (result_over p).Fits y → (x : Identifier) (rest : List Token) → scan begun (maybe_result (Some y) ++ (identifier_tokens x ++ rest)) ≡ wrong
   result_wrong y (inl (place, anything, is)) x rest = ap (λ (c : ResultType). scan begun (maybe_result (Some c) ++ (identifier_tokens x ++ rest))) (sym is) ∙ wrong_stays (identifier_tokens x ++ rest)
   result_wrong y (inr (inner, fits, is)) x rest = ap (λ (c : ResultType). scan begun (maybe_result (Some c) ++ (identifier_tokens x ++ rest))) (sym is) ∙ P.both inner fits x rest
+
+-- what stands behind a variable's name
+more_wrong : (more : List (Place × (Identifier × Value))) (semicolon : Place) → scan typed (more_variables_tokens (more_variables more) ++ sign_at semicolon s.Semicolon ∷ []) ≡ wrong
+unfolding more_variables_tokens
+more_wrong [] semicolon = refl
+more_wrong (x ∷ xs) semicolon = wrong_stays ((identifier_tokens x.1.0 ++ (value_tokens x.1.1 ++ more_variables_tokens (more_variables xs))) ++ sign_at semicolon s.Semicolon ∷ [])
+
+values_wrong : (p : Phrase Expr) (x : Value) → (after_sign s.Assign p).Fits x → (more : List (Place × (Identifier × Value))) (semicolon : Place) → scan typed (value_tokens x ++ (more_variables_tokens (more_variables more) ++ sign_at semicolon s.Semicolon ∷ [])) ≡ wrong
+unfolding value_tokens
+values_wrong p x (inl is) more semicolon = ap (λ (c : Value). scan typed (value_tokens c ++ (more_variables_tokens (more_variables more) ++ sign_at semicolon s.Semicolon ∷ []))) is ∙ more_wrong more semicolon
+values_wrong p x (inr (parts, fits, is)) more semicolon = ap (λ (c : Value). scan typed (value_tokens c ++ (more_variables_tokens (more_variables more) ++ sign_at semicolon s.Semicolon ∷ []))) (sym is)
+    ∙ wrong_stays (expr_tokens parts.1 ++ (more_variables_tokens (more_variables more) ++ sign_at semicolon s.Semicolon ∷ []))
 
 -- wrong, or in a body
 abbrev Declared : State → Type 0
@@ -124,7 +147,8 @@ module _ (inner : StmtNodes) where
     variables_over_wrong : (x : Variables) → (variables_over inner).Fits x → scan begun (variables_tokens x) ≡ wrong
     unfolding variables_tokens
     variables_over_wrong x (parts, fits, is) = ap (λ (c : Variables). scan begun (variables_tokens c)) (sym is)
-        ∙ kind_wrong T parts.0.0 fits.0.0.0 parts.0.1 (value_tokens parts.1.0 ++ (more_variables_tokens (more_variables parts.1.1.0) ++ sign_at parts.1.1.1 s.Semicolon ∷ []))
+        ∙ variables_kind_wrong T parts.0.0 fits.0.0.0 parts.0.1 (value_tokens parts.1.0 ++ (more_variables_tokens (more_variables parts.1.1.0) ++ sign_at parts.1.1.1 s.Semicolon ∷ []))
+        (values_wrong inner.expr_nodes.expr parts.1.0 fits.1.0 parts.1.1.0 parts.1.1.1)
 
     module _ (calls : (x : t.Parameters) → inner.expr_nodes.parameters.Fits x → scan named (parameters_tokens x) ≡ called) where
       signature_declared : (y : Option ResultType) → (opt (result_over inner.expr_nodes.type)).Fits y → (x : Identifier) (given : t.Parameters) (body : Body) → inner.expr_nodes.parameters.Fits given → (whole_body inner.expr_nodes).Fits body → Declared (scan begun (maybe_result y ++ (identifier_tokens x ++ (parameters_tokens given ++ body_tokens body))))
@@ -140,7 +164,7 @@ module _ (inner : StmtNodes) where
           (subst (λ (e : Option Place). Declared (scan begun (maybe_word e w.External ++ (maybe_result parts.1.0.0 ++ (identifier_tokens parts.1.0.1 ++ (parameters_tokens parts.1.1.0 ++ body_tokens parts.1.1.1)))))) (sym fits.0)
           (signature_declared parts.1.0.0 fits.1.0.0.0 parts.1.0.1 parts.1.1.0 parts.1.1.1 fits.1.1.0 fits.1.1.1))
 
-declared : (n : ℕ) (x : Stmt) → (declares (within n).nodes).Fits x → Declared (scan begun (stmt_tokens x))
+declared : (n : ℕ) (x : Stmt) → (declaration_of (within n).nodes).Fits x → Declared (scan begun (stmt_tokens x))
 unfolding within nodes_over stmt_tokens
 declared zero x (inl (inner, fits, is)) = absurd fits
 declared zero x (inr (inner, fits, is)) = absurd fits
@@ -190,7 +214,7 @@ module _ (n : ℕ) where
   jump_free x (inr (inr (inl (parts, fits, is)))) = lead_free stmt_tokens _ x is _ _ refl refl
   jump_free x (inr (inr (inr (parts, fits, is)))) = lead_free stmt_tokens _ x is _ _ refl refl
 
-  acted_free : (x : Stmt) → (acts (within n).nodes).Fits x → scan begun (stmt_tokens x) ≡ free
+  acted_free : (x : Stmt) → (other_statement_of (within n).nodes).Fits x → scan begun (stmt_tokens x) ≡ free
   unfolding stmt_tokens
   acted_free x (inl (block, fits, is)) = ap (λ (c : Stmt). scan begun (stmt_tokens c)) (sym is) ∙ block_free block
   acted_free x (inr (inl fits)) = compound_within_free n x fits

@@ -1,6 +1,6 @@
 -- A test of lists of tokens that tells a declaration from an expression statement by how it begins: what begins with a type
--- and a name, or with a name, parameters and a body, is none.
-use Rattle.std.proofs.Common.{◌≡◌, ℕ, zero, suc, Bool, true, false, List, [], ◌∷◌, ◌++◌, refl, ap, ◌∙◌}
+-- and a name, with a name, parameters and a body, or with `const` and a type or a name and no parenthesis, is none.
+use Rattle.std.proofs.Common.{◌≡◌, ℕ, zero, suc, Bool, true, false, ◌&&◌, List, [], ◌∷◌, ◌++◌, refl, ap, ◌∙◌}
 use Rattle.dart_token.specs.declared.token.Token.{Token}
 use Rattle.dart_token.specs.declared.token.TokenKind.{TokenKind}
 use Rattle.dart_token.specs.declared.token.TokenKind.TheVariants as tk
@@ -14,6 +14,7 @@ use Rattle.dart_token.specs.declared.word.Word.TheVariants as w
 pub data Class : Type 0 where
   name : Class
   declaring : Class
+  constant : Class
   dot : Class
   less : Class
   greater : Class
@@ -42,6 +43,7 @@ word_class w.Var = declaring
 word_class w.Final = declaring
 word_class w.Void = declaring
 word_class w.Dynamic = declaring
+word_class w.Const = constant
 word_class x = other
 
 abbrev pub kind_class : TokenKind → Class
@@ -73,6 +75,14 @@ pub data State : Type 0 where
   called : State
   -- behind the brace of a body there
   braced : State
+  -- behind `const`
+  const_begun : State
+  -- behind `const` and a type or a name
+  typed : State
+  -- behind a dot there
+  typed_dotted : State
+  -- behind `<` there, and so many more that are open
+  angles : ℕ → State
   -- where anything may come
   free : State
   wrong : State
@@ -80,6 +90,7 @@ pub data State : Type 0 where
 abbrev pub step : State → Class → State
 step begun name = named
 step begun declaring = wrong
+step begun constant = const_begun
 step begun x = free
 step named name = wrong
 step named dot = dotted
@@ -108,6 +119,19 @@ step called arrow = wrong
 step called brace = braced
 step called x = free
 step braced x = braced
+step const_begun name = typed
+step const_begun declaring = typed
+step const_begun x = free
+step typed dot = typed_dotted
+step typed less = angles 0
+step typed left = free
+step typed x = wrong
+step typed_dotted name = typed
+step typed_dotted x = free
+step (angles k) less = angles (suc k)
+step (angles zero) greater = typed
+step (angles (suc k)) greater = angles k
+step (angles k) x = angles k
 step free x = free
 step wrong x = wrong
 
@@ -148,6 +172,7 @@ is_plain x = true
 pub plain_stays : (k : ℕ) (c : Class) → is_plain c ≡ true → step (inside k) c ≡ inside k
 plain_stays k name plain = refl
 plain_stays k declaring plain = refl
+plain_stays k constant plain = refl
 plain_stays k dot plain = refl
 plain_stays k less plain = refl
 plain_stays k greater plain = refl
@@ -165,8 +190,16 @@ plain_word w.Var = refl
 plain_word w.Final = refl
 plain_word w.Void = refl
 plain_word w.Dynamic = refl
+plain_word w.Const = refl
 plain_word x = refl
 
 -- from one open parenthesis more to where it is closed
 abbrev pub Closing : List Token → Type 0
 Closing ts = (k : ℕ) → scan (inside (suc k)) ts ≡ inside k
+
+-- ---- tests of two things
+
+pub both_true : (a b : Bool) → (a && b) ≡ true → (a ≡ true) × (b ≡ true)
+both_true true true e = (refl, refl)
+both_true true false e = (refl, e)
+both_true false b e = (e, absurd cc)

@@ -1,4 +1,4 @@
+pub mod Relations
 pub mod Heights
-pub mod Operators
-pub mod ByHeight
 pub mod Fronts
+pub mod Readings

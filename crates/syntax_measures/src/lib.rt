@@ -1,8 +1,8 @@
-// What the grammar's phrases say of the depth, the levels and the targets of their trees. The crate runs nothing. Each
-// function carries laws of the definitions of dart_syntax and dart_tree as its contract.
+// What the laws of the parser and of erasure cite of the grammar: how deep its trees are, that a larger depth accepts more,
+// and which lists of tokens leave a choice. The crate runs nothing. Each function carries laws of the definitions as its
+// contract.
 #![tactic(auto)]
 
-pub mod depth;
-pub mod exact;
-pub mod front;
-pub mod operators;
+pub mod fronts;
+pub mod heights;
+pub mod readings;

@@ -1,0 +1,5 @@
+use Rattle.syntax_measures.proofs.Laws as laws
+use Rattle.syntax_measures.proofs.heights.units_no_deeper.Goals as goal
+
+pub returns : goal.returns
+returns c = laws.units_no_deeper
