@@ -1,0 +1,10 @@
+pub mod Combinators
+pub mod Types
+pub mod Primaries
+pub mod Levels
+pub mod Expressions
+pub mod Parameters
+pub mod Statements
+pub mod Declarations
+pub mod Units
+pub mod Examples

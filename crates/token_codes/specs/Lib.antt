@@ -1,0 +1,4 @@
+pub mod Codes
+pub mod Leaves
+pub mod Reads
+pub mod Statements
