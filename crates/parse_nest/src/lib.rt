@@ -1,0 +1,4 @@
+// How the functions that read a node reach those that read the nodes inside it.
+#![tactic(auto)]
+
+pub mod inside;

@@ -1,0 +1,4 @@
+pub mod Takes
+pub mod Passing
+pub mod Answering
+pub mod Skipping
