@@ -1,8 +1,3 @@
+pub mod LanguageLaws
 pub mod Outcomes
-pub mod Printing
-pub mod Rests
-pub mod Sources
-pub mod Terminals
-pub mod Unread
-pub mod Values
-pub mod Variables
+pub mod SubsetLaws

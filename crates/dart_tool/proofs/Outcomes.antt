@@ -1,57 +1,37 @@
--- A text spells one program, so words and files have one outcome, and never none.
-use Rattle.std.specs.Prelude.{IfSome, IfOk, Result, Ok, Err}
+-- Words and files have one outcome, and never none.
+use Rattle.std.specs.Prelude.{IfSome, IfOk, Result, Ok, Err, ◌↔◌}
 use Rattle.std.proofs.Common.{◌≡◌, ◌∙◌, sym, ap, refl, subst, ℕ, List, Option, None, Some, inl, inr}
-use Rattle.dart_lex.specs.declared.lexer.LexFault.{LexFault}
-use Rattle.dart_lex.specs.Faults.{HasReason}
-use Rattle.dart_lex.proofs.LexLaws.{one_reason, spelled_or_refused}
 use Rattle.dart_edge.specs.Files.{Files, file_of}
-use Rattle.dart_edge.specs.Writes.{IsFront, WroteFront}
+use Rattle.dart_edge.specs.Writes.{IsPrefix, WrotePrefix}
 use Rattle.dart_tool.specs.declared.outcome.Outcome.{Outcome}
-use Rattle.dart_tool.specs.declared.program.Statement.{Statement}
 use Rattle.dart_tool.specs.declared.status.Status.{Status}
 use Rattle.dart_tool.specs.declared.status.Status.TheVariants.{Done, Usage, Refused, Limit, ReadFault, WriteFault, Memory}
 use Rattle.dart_tool.specs.declared.status.Refusal.{Refusal}
 use Rattle.dart_tool.specs.declared.status.Refusal.TheVariants.{NotFound, NotBuilt}
-use Rattle.dart_tool.specs.Status.{lexical_refusal}
-use Rattle.dart_tool.specs.Words.{Command, Command.run_file, reading}
-use Rattle.dart_tool.specs.Program.{IsSource}
-use Rattle.dart_tool.specs.Model.{run_of}
-use Rattle.dart_tool.specs.Outcome.{HasRefusal, FileGives, CommandGives, IsOutcome, usage_outcome, transcript, refused}
+use Rattle.dart_tool.specs.Language.{RefusedFor, Runs, GivesRun, DifferInAnnotationsAlone}
+use Rattle.dart_tool.specs.Outcome.{FileGives, CommandGives, IsOutcome, usage_outcome, transcript, refused}
+use Rattle.dart_tool.specs.Run.{Run}
 use Rattle.dart_tool.specs.Tool.{Answers, CutShort, Delivers}
-use Rattle.dart_tool.proofs.Sources.{one_program}
-
--- a text has one refusal for a lexical reason
-one_refusal : (text : List ℕ) (a b : Refusal) → HasRefusal text a → HasRefusal text b → a ≡ b
-one_refusal text a b (fault, x, e) (other, y, f) =
-    let both : Some a ≡ Some b = sym e ∙ ap lexical_refusal (one_reason 0 text fault other x y) ∙ f in cc
-
--- and none where it is a source
-no_refusal : (text : List ℕ) (p : List Statement) (why : Refusal) → IsSource text p → HasRefusal text why → ⊥
-no_refusal text p why source (fault, reason, e) =
-    let (tokens, spelled, is) = source.spelled in spelled_or_refused 0 text tokens fault spelled reason
-
--- and none where it has no reason
-pub without_refusal : (text : List ℕ) → ((fault : LexFault) → HasReason 0 text fault → ⊥) → (why : Refusal) → HasRefusal text why → ⊥
-without_refusal text none why (fault, reason, e) = none fault reason
+use Rattle.dart_tool.specs.Words.{Command, Command.run_file, reading}
+use Rattle.dart_tool.proofs.LanguageLaws.{one_refusal, one_run, run_unrefused, file_unread}
 
 pub one_file_outcome : (name : List ℕ) (content : Option (List ℕ)) (a b : Outcome) → FileGives name content a → FileGives name content b → a ≡ b
 one_file_outcome name None a b x y = x ∙ sym y
 one_file_outcome name (Some text) a b (inl (why, has, e)) (inl (also, other, f)) = e ∙ ap (λ w. refused w name) (one_refusal text why also has other) ∙ sym f
-one_file_outcome name (Some text) a b (inl (why, has, e)) (inr (inl (q, other, f))) = absurd (no_refusal text q why other has)
-one_file_outcome name (Some text) a b (inl (why, has, e)) (inr (inr (none, no_program, f))) = absurd (none why has)
-one_file_outcome name (Some text) a b (inr (inl (p, source, e))) (inl (why, has, f)) = absurd (no_refusal text p why source has)
-one_file_outcome name (Some text) a b (inr (inl (p, source, e))) (inr (inl (q, other, f))) = e ∙ ap (λ s. transcript (run_of s)) (one_program text p q source other) ∙ sym f
-one_file_outcome name (Some text) a b (inr (inl (p, source, e))) (inr (inr (none, no_program, f))) = absurd (no_program p source)
-one_file_outcome name (Some text) a b (inr (inr (none, no_program, e))) (inl (why, has, f)) = absurd (none why has)
-one_file_outcome name (Some text) a b (inr (inr (none, no_program, e))) (inr (inl (q, other, f))) = absurd (no_program q other)
-one_file_outcome name (Some text) a b (inr (inr (none, no_program, e))) (inr (inr (nothing, nowhere, f))) = e ∙ sym f
+one_file_outcome name (Some text) a b (inl (why, has, e)) (inr (inl (run, runs, f))) = absurd (run_unrefused text run why runs has)
+one_file_outcome name (Some text) a b (inl (why, has, e)) (inr (inr (none, no_run, f))) = absurd (none why has)
+one_file_outcome name (Some text) a b (inr (inl (run, runs, e))) (inl (why, has, f)) = absurd (run_unrefused text run why runs has)
+one_file_outcome name (Some text) a b (inr (inl (run, runs, e))) (inr (inl (other, also, f))) = e ∙ ap transcript (one_run text run other runs also) ∙ sym f
+one_file_outcome name (Some text) a b (inr (inl (run, runs, e))) (inr (inr (none, no_run, f))) = absurd (no_run run runs)
+one_file_outcome name (Some text) a b (inr (inr (none, no_run, e))) (inl (why, has, f)) = absurd (none why has)
+one_file_outcome name (Some text) a b (inr (inr (none, no_run, e))) (inr (inl (run, runs, f))) = absurd (no_run run runs)
+one_file_outcome name (Some text) a b (inr (inr (none, no_run, e))) (inr (inr (nothing, nowhere, f))) = e ∙ sym f
 
--- a file that has neither a lexical reason nor a program
-pub not_built : {E : Type 0} (name text : List ℕ) (content : Option (List ℕ)) → content ≡ Some text → ((fault : LexFault) → HasReason 0 text fault → ⊥) → ((p : List Statement) → IsSource text p → ⊥) → (result : Result Outcome E) → IfOk result (λ out. out ≡ refused NotBuilt name) → IfOk result (λ out. FileGives name content out)
-not_built name text content is no_reason no_program (Err error) h = tt
-not_built name text content is no_reason no_program (Ok out) h =
-    let P : Option (List ℕ) → Type 0 = λ c. FileGives name c out in
-    subst P (sym is) (inr (inr (without_refusal text no_reason, no_program, h)))
+-- a file whose text is refused for no reason, and comes to no run
+pub not_built : {E : Type 0} (name text : List ℕ) (content : Option (List ℕ)) → content ≡ Some text → ((why : Refusal) → RefusedFor text why → ⊥) → GivesRun text None → (result : Result Outcome E) → IfOk result (λ out. out ≡ refused NotBuilt name) → IfOk result (λ out. FileGives name content out)
+not_built name text content is no_reason no_run (Err error) h = tt
+not_built name text content is no_reason no_run (Ok out) h =
+    subst (λ (c : Option (List ℕ)). FileGives name c out) (sym is) (inr (inr (no_reason, no_run, h)))
 
 one_command_outcome : (command : Option Command) (files : Files) (a b : Outcome) → CommandGives command files a → CommandGives command files b → a ≡ b
 one_command_outcome None files a b x y = x ∙ sym y
@@ -64,9 +44,9 @@ one_outcome words files a b x y = one_command_outcome (reading words) files a b 
 some_file_outcome : (name : List ℕ) (content : Option (List ℕ)) → ((out : Outcome) → FileGives name content out → ⊥) → ⊥
 some_file_outcome name None none = none (refused NotFound name) refl
 some_file_outcome name (Some text) none =
-    let no_reason : (why : Refusal) → HasRefusal text why → ⊥ = λ why has. none (refused why name) (inl (why, has, refl)) in
-    let no_program : (statements : List Statement) → IsSource text statements → ⊥ = λ statements source. none (transcript (run_of statements)) (inr (inl (statements, source, refl))) in
-    none (refused NotBuilt name) (inr (inr (no_reason, no_program, refl)))
+    let no_reason : (why : Refusal) → RefusedFor text why → ⊥ = λ why has. none (refused why name) (inl (why, has, refl)) in
+    let no_run : (run : Run) → Runs text run → ⊥ = λ run runs. none (transcript run) (inr (inl (run, runs, refl))) in
+    none (refused NotBuilt name) (inr (inr (no_reason, no_run, refl)))
 
 some_command_outcome : (command : Option Command) (files : Files) → ((out : Outcome) → CommandGives command files out → ⊥) → ⊥
 some_command_outcome None files none = none usage_outcome refl
@@ -76,14 +56,14 @@ some_command_outcome (Some (run_file name)) files none = some_file_outcome name 
 pub some_outcome : (words : List (List ℕ)) (files : Files) → ((out : Outcome) → IsOutcome words files out → ⊥) → ⊥
 some_outcome words files none = some_command_outcome (reading words) files none
 
-front_written : (IsDue : Outcome → Type 0) (due : Outcome) (before after : Option (List ℕ)) → ((out : Outcome) → IsDue out → out ≡ due) → WroteFront before after due.bytes → CutShort IsDue before after
-front_written IsDue due before after one (front, is, e) = (front, e, λ out is_due. subst (λ (o : Outcome). IsFront front o.bytes) (sym (one out is_due)) is)
+prefix_written : (IsDue : Outcome → Type 0) (due : Outcome) (before after : Option (List ℕ)) → ((out : Outcome) → IsDue out → out ≡ due) → WrotePrefix before after due.bytes → CutShort IsDue before after
+prefix_written IsDue due before after one (prefix, is, e) = (prefix, e, λ out is_due. subst (λ (o : Outcome). IsPrefix prefix o.bytes) (sym (one out is_due)) is)
 
 -- delivering the one outcome that is due answers it
 pub answers_from_delivered : (IsDue : Outcome → Type 0) (due : Outcome) (status : Status) (before after : Option (List ℕ)) → IsDue due → ((out : Outcome) → IsDue out → out ≡ due) → Delivers due status before after → Answers IsDue status before after
 answers_from_delivered IsDue due ReadFault before after is one h = absurd h
-answers_from_delivered IsDue due WriteFault before after is one h = front_written IsDue due before after one h
-answers_from_delivered IsDue due Memory before after is one h = front_written IsDue due before after one h
+answers_from_delivered IsDue due WriteFault before after is one h = prefix_written IsDue due before after one h
+answers_from_delivered IsDue due Memory before after is one h = prefix_written IsDue due before after one h
 answers_from_delivered IsDue due Done before after is one h = (due, is, h.0, h.1)
 answers_from_delivered IsDue due Usage before after is one h = (due, is, h.0, h.1)
 answers_from_delivered IsDue due Refused before after is one h = (due, is, h.0, h.1)
@@ -104,3 +84,10 @@ words_answer (Some files) words command status before after e h = subst (λ (c :
 pub usage_answers : (told : Option Files) (status : Status) (before after : Option (List ℕ)) → Delivers usage_outcome status before after → IfSome told (λ files. Answers (CommandGives None files) status before after)
 usage_answers None status before after h = tt
 usage_answers (Some files) status before after h = answers_from_delivered (CommandGives None files) usage_outcome status before after refl (λ out due. due) h
+
+-- type annotations in a file that is run aren't read
+pub outcome_unread : (words : List (List ℕ)) (files others : Files) (name text other : List ℕ) (out : Outcome) → reading words ≡ Some (run_file name) → file_of files name ≡ Some text → file_of others name ≡ Some other → DifferInAnnotationsAlone text other → (IsOutcome words files out) ↔ (IsOutcome words others out)
+outcome_unread words files others name text other out is here there d =
+    let gives : (FileGives name (Some text) out) ↔ (FileGives name (Some other) out) = file_unread name text other out d in
+    let from : (FileGives name (file_of files name) out) ↔ (FileGives name (file_of others name) out) = rw (here, there) gives in
+    rw is from

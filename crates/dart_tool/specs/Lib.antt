@@ -1,11 +1,8 @@
-pub mod Fronts
+pub mod Language
 pub mod Laws
-pub mod Model
-pub mod Names
 pub mod Outcome
-pub mod Program
-pub mod Scope
+pub mod Run
 pub mod Status
-pub mod Terminal
+pub mod Subset
 pub mod Tool
 pub mod Words

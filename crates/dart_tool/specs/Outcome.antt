@@ -1,46 +1,54 @@
 -- What the tool writes and how it ends, from its words and files alone.
 use Rattle.std.specs.Prelude.{◌≡◌, ℕ, nat_lt, List, [], ◌∷◌, ◌++◌, map, if◌then◌else◌, Option, None, Some, ◌⊎◌, codes, Bool, true, false}
 use Rattle.std.specs.Fmt.{decimal}
+use Rattle.std.specs.Str.{byte}
 use Rattle.dart_base.specs.declared.place.Place.{Place}
 use Rattle.dart_base.specs.Feature.{feature_text}
 use Rattle.dart_edge.specs.Files.{Files, file_of}
-use Rattle.dart_lex.specs.declared.lexer.LexFault.{LexFault}
-use Rattle.dart_lex.specs.Faults.{HasReason}
 use Rattle.dart_tool.specs.declared.outcome.Outcome.{Outcome}
-use Rattle.dart_tool.specs.declared.evaluate.Ending.{Ending}
-use Rattle.dart_tool.specs.declared.evaluate.Ending.TheVariants.{Returned, IntegerLimit}
+use Rattle.dart_tool.specs.declared.run.Ending.{Ending}
+use Rattle.dart_tool.specs.declared.run.Ending.TheVariants.{Returned, IntegerLimit}
 use Rattle.dart_tool.specs.declared.status.Status.{Status}
 use Rattle.dart_tool.specs.declared.status.Status.TheVariants.{Done, Usage, Refused, Limit, ReadFault, WriteFault, Memory}
 use Rattle.dart_tool.specs.declared.status.Refusal.{Refusal}
 use Rattle.dart_tool.specs.declared.status.Refusal.TheVariants.{NotFound, NotUtf8, BadToken, LeftOut, IntegerTooLarge, NotBuilt}
-use Rattle.dart_tool.specs.declared.program.Statement.{Statement}
-use Rattle.dart_tool.specs.Status.{refusal_text, lexical_refusal}
+use Rattle.dart_tool.specs.Language.{RefusedFor, Runs}
+use Rattle.dart_tool.specs.Run.{Run, with_end, printed_bytes}
+use Rattle.dart_tool.specs.Status.{refusal_text}
 use Rattle.dart_tool.specs.Words.{Command, Command.run_file, reading}
-use Rattle.dart_tool.specs.Program.{IsSource}
-use Rattle.dart_tool.specs.Model.{Run, run_of, with_end, printed_bytes}
+
+abbrev pub usage_line : List ℕ
+usage_line =
+    codes "usage: dart run|trace [--checked] [--steps N] [--units N] [--workers N] FILE" ++
+    codes " | erase FILE | analyse FILE | soak N"
 
 -- the line that says how the tool is called
 abbrev pub usage_outcome : Outcome
-usage_outcome = record { status = Usage; bytes = with_end (codes "usage: dart run|trace [--checked] [--steps N] [--units N] [--workers N] FILE | erase FILE | analyse FILE | soak N") }
+usage_outcome = record { status = Usage; bytes = with_end usage_line }
 
--- a file's name as it is written: a byte below 32 is a blank
+-- a file's name as it is written: a control byte is a blank
 abbrev pub shown : List ℕ → List ℕ
-shown name = map (λ b. if nat_lt b 32 then 32 else b) name
+shown name = map (λ b. if nat_lt b (byte " ") then byte " " else b) name
 
 -- FILE:LINE:COLUMN
 abbrev pub shown_place : Place → List ℕ → List ℕ
-shown_place place name = shown name ++ 58 ∷ (decimal place.line ++ 58 ∷ decimal place.column)
+shown_place place name =
+    shown name ++ byte ":" ∷ (decimal place.line ++ byte ":" ∷ decimal place.column)
 
--- what the line of a refusal says after the kind: the file, with the place where there is one, and then an offset or a feature
+-- what the line of a refusal says after the kind: the file, with the place where there is one, and then an offset or
+-- a feature
 abbrev pub refusal_details : Refusal → List ℕ → List ℕ
-refusal_details (NotUtf8 offset) name = shown name ++ 32 ∷ decimal offset
+refusal_details (NotUtf8 offset) name = shown name ++ byte " " ∷ decimal offset
 refusal_details (BadToken place) name = shown_place place name
-refusal_details (LeftOut place feature) name = shown_place place name ++ 32 ∷ feature_text feature
+refusal_details (LeftOut place feature) name = shown_place place name ++ byte " " ∷ feature_text feature
 refusal_details (IntegerTooLarge place) name = shown_place place name
 refusal_details why name = shown name
 
 abbrev pub refused : Refusal → List ℕ → Outcome
-refused why name = record { status = Refused; bytes = with_end (codes "** refused " ++ (refusal_text why ++ 32 ∷ refusal_details why name)) }
+refused why name = record {
+  status = Refused;
+  bytes = with_end (codes "** refused " ++ (refusal_text why ++ byte " " ∷ refusal_details why name));
+}
 
 abbrev pub end_status : Ending → Status
 end_status Returned = Done
@@ -51,22 +59,24 @@ abbrev pub end_bytes : Ending → List ℕ
 end_bytes Returned = []
 end_bytes IntegerLimit = with_end (codes "** limit IntegerLimit")
 
--- the printed lines, and the line of an abnormal ending
+-- what was printed, and the line of an abnormal ending
+abbrev pub transcript_of : List ℕ → Ending → Outcome
+transcript_of bytes ending =
+    record { status = end_status ending; bytes = bytes ++ end_bytes ending }
+
+-- the transcript of a run: the printed lines, and the line of an abnormal ending
 abbrev pub transcript : Run → Outcome
-transcript run = record { status = end_status run.ending; bytes = printed_bytes run ++ end_bytes run.ending }
+transcript run = transcript_of (printed_bytes run) run.ending
 
--- The text has a lexical reason, for which it is refused.
-abbrev pub HasRefusal : List ℕ → Refusal → Type 0
-HasRefusal text why = (fault : LexFault) × HasReason 0 text fault × (lexical_refusal fault ≡ Some why)
-
--- What `run` gives for a file that isn't there, or for one with this text: the refusal for its lexical reason, or the
--- program's transcript, or, where it has neither, NotBuilt.
+-- What `run` gives for a file that isn't there, or for one with this text: the refusal for the text's reason, or the
+-- transcript of its run, or, where it has neither, NotBuilt.
 abbrev pub FileGives : List ℕ → Option (List ℕ) → Outcome → Type 0
 FileGives name None out = out ≡ refused NotFound name
 FileGives name (Some text) out =
-    ((why : Refusal) × HasRefusal text why × (out ≡ refused why name)) ⊎
-    (((statements : List Statement) × IsSource text statements × (out ≡ transcript (run_of statements))) ⊎
-    (((why : Refusal) → HasRefusal text why → ⊥) × ((statements : List Statement) → IsSource text statements → ⊥) × (out ≡ refused NotBuilt name)))
+    ((why : Refusal) × RefusedFor text why × (out ≡ refused why name)) ⊎
+    (((run : Run) × Runs text run × (out ≡ transcript run)) ⊎
+    (((why : Refusal) → RefusedFor text why → ⊥) × ((run : Run) → Runs text run → ⊥) ×
+    (out ≡ refused NotBuilt name)))
 
 -- What a command gives.
 abbrev pub CommandGives : Option Command → Files → Outcome → Type 0

@@ -27,7 +27,7 @@ refusal_text (LeftOut place feature) = codes "LeftOut"
 refusal_text (IntegerTooLarge place) = codes "IntegerTooLarge"
 refusal_text NotBuilt = codes "NotBuilt"
 
--- the refusal for a lexical reason; want of memory is none
+-- the refusal for a lexical reason; being out of memory is none
 abbrev pub lexical_refusal : LexFault → Option Refusal
 lexical_refusal e.TooLarge = Some TooLarge
 lexical_refusal (e.NotUtf8 offset) = Some (NotUtf8 offset)

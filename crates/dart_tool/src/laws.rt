@@ -1,15 +1,13 @@
 // What follows from the definitions of an outcome, and from the contract of the whole tool.
-ghost use Rattle.std.specs.Prelude.{◌≡◌, ◌↔◌, ℕ, List, [], Some, map};
+ghost use Rattle.std.specs.Prelude.{◌≡◌, ◌↔◌, ℕ, List, Some, map};
 ghost use Rattle.std.specs.String.{string_bytes};
 ghost use Rattle.dart_edge.specs.Files.{Files, file_of};
 ghost use Rattle.dart_edge.specs.Memory.{safe_files, safe_written};
 ghost use Rattle.dart_tool.specs.declared.outcome.Outcome.{Outcome};
-ghost use Rattle.dart_tool.specs.declared.program.Statement.{Statement};
-ghost use Rattle.dart_tool.specs.Laws.{AnswersSafely, DifferInWordsAlone};
-ghost use Rattle.dart_tool.specs.Model.{run_of};
-ghost use Rattle.dart_tool.specs.Names.{Fits};
+ghost use Rattle.dart_tool.specs.Language.{DifferInAnnotationsAlone, Runs};
+ghost use Rattle.dart_tool.specs.Laws.{AnswersSafely};
 ghost use Rattle.dart_tool.specs.Outcome.{FileGives, IsOutcome};
-ghost use Rattle.dart_tool.specs.Program.{IsSource};
+ghost use Rattle.dart_tool.specs.Run.{Run};
 ghost use Rattle.dart_tool.specs.Words.{Command.run_file, reading};
 
 use crate::status::Status;
@@ -29,24 +27,25 @@ pub fn one_outcome()
 
 /// Words and files are never without an outcome.
 pub fn never_without_outcome()
-    ensures { (words : List (List ℕ)) (files : Files) → ((out : Outcome) → IsOutcome words files out → ⊥) → ⊥ }
+    ensures { (words : List (List ℕ)) (files : Files) →
+        ((out : Outcome) → IsOutcome words files out → ⊥) → ⊥ }
 {}
 
-/// The word before a declared name is never read: programs that differ in these words alone print the same, and
-/// their files have one outcome.
-pub fn words_are_not_read()
-    ensures run { (p q : List Statement) → DifferInWordsAlone p q → run_of p ≡ run_of q }
-    ensures fits { (p q : List Statement) → DifferInWordsAlone p q → Fits [] p → Fits [] q }
-    ensures file { (name t u : List ℕ) (p q : List Statement) (out : Outcome) →
-        IsSource t p → IsSource u q → DifferInWordsAlone p q →
-        FileGives name (Some t) out ↔ FileGives name (Some u) out }
-    ensures outcome { (words : List (List ℕ)) (files others : Files) (name t u : List ℕ) (p q : List Statement) (out : Outcome) →
-        reading words ≡ Some (run_file name) → file_of files name ≡ Some t → file_of others name ≡ Some u →
-        IsSource t p → IsSource u q → DifferInWordsAlone p q →
+/// Type annotations of variables are never read: texts that differ in these alone have the same run and outcome.
+pub fn annotations_are_not_read()
+    ensures run { (text other : List ℕ) (run : Run) → DifferInAnnotationsAlone text other →
+        Runs text run ↔ Runs other run }
+    ensures file { (name text other : List ℕ) (out : Outcome) → DifferInAnnotationsAlone text other →
+        FileGives name (Some text) out ↔ FileGives name (Some other) out }
+    ensures outcome { (words : List (List ℕ)) (files others : Files)
+        (name text other : List ℕ) (out : Outcome) →
+        reading words ≡ Some (run_file name) →
+        file_of files name ≡ Some text → file_of others name ≡ Some other →
+        DifferInAnnotationsAlone text other →
         IsOutcome words files out ↔ IsOutcome words others out }
 {}
 
-/// The tool over files and output in memory, which never fail: it answers the outcome, or want of memory.
+/// The tool over files and output in memory, which never fail: it answers the outcome, or Memory.
 pub fn dart_in_memory<R: Threads + Wait + Sync, G: Gate>(
     rt: &R,
     alloc: Global,
@@ -55,7 +54,8 @@ pub fn dart_in_memory<R: Threads + Wait + Sync, G: Gate>(
     sink: &mut NoFaultSink,
     gate: &G,
 ) -> Status
-    ensures { AnswersSafely (map string_bytes words.now) (safe_files sources.old) result (safe_written sink.old) (safe_written sink.new) }
+    ensures { AnswersSafely (map string_bytes words.now) (safe_files sources.old) result
+        (safe_written sink.old) (safe_written sink.new) }
 {
     dart(rt, alloc, words, sources, sink, gate)
 }

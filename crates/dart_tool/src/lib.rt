@@ -1,17 +1,13 @@
 // The tool: from the words of a command line and a source of files to the bytes of a sink and a status.
 #![tactic(auto)]
 
-mod evaluate;
+mod language;
 pub mod laws;
 mod outcome;
-mod parser;
-pub mod program;
-mod scope;
-mod source;
+mod run;
 pub mod status;
-mod terminal;
+mod subset;
 #[cfg(test)]
 mod tests;
 pub mod tool;
-mod value;
 pub mod words;

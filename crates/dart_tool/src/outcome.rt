@@ -1,12 +1,10 @@
 // What a file gives: the bytes that are written, and the status.
-ghost use Rattle.std.specs.Prelude.{◌≡◌, ◌++◌, false, Some, IfOk};
+ghost use Rattle.std.specs.Prelude.{◌≡◌, ◌++◌, false, IfOk};
 ghost use Rattle.std.specs.Fmt.{decimal};
-ghost use Rattle.dart_tool.specs.Model.{run_of};
-ghost use Rattle.dart_tool.specs.Outcome.{FileGives, refused, refusal_details, shown, shown_place, transcript, is_cut_short};
+ghost use Rattle.dart_tool.specs.Outcome.{FileGives, refused, refusal_details, shown, shown_place, transcript_of, is_cut_short};
 
-use crate::evaluate::{Ending, run};
-use crate::program::Statement;
-use crate::source::source_program;
+use crate::language::{Stop, run_text};
+use crate::run::{Ending, Printed};
 use crate::status::{Refusal, Status};
 use dart_base::bytes::Bytes;
 use dart_base::place::Place;
@@ -88,13 +86,12 @@ pub fn refused(alloc: Global, why: Refusal, name: &[u8]) -> Result<Outcome, Allo
     })
 }
 
-/// What a program prints, and then the line of an abnormal ending.
-pub fn transcript(alloc: Global, statements: &[Statement]) -> Result<Outcome, AllocError>
-    ensures { IfOk result (λ out. out ≡ transcript (run_of statements.now)) }
+/// What a run printed, and then the line of an abnormal ending.
+pub fn transcript_of(printed: Printed) -> Result<Outcome, AllocError>
+    ensures { IfOk result (λ out. out ≡ transcript_of printed.bytes printed.ending) }
 {
-    let printed = run(alloc, statements)?;
-    let mut bytes = printed.bytes;
-    match printed.ending {
+    let Printed { mut bytes, ending } = printed;
+    match ending {
         Ending::Returned => Ok(Outcome {
             status: Status::Done,
             bytes,
@@ -121,12 +118,10 @@ pub fn file_outcome(
     let Some(text) = content else {
         return refused(alloc, Refusal::NotFound, name);
     };
-    match source_program(alloc, text.as_slice()) {
-        Ok(Some(statements)) => transcript(alloc, &statements),
+    match run_text(alloc, text.as_slice()) {
+        Ok(Some(printed)) => transcript_of(printed),
         Ok(None) => refused(alloc, Refusal::NotBuilt, name),
-        Err(fault) => match Refusal::of_lexis(fault) {
-            Some(why) => refused(alloc, why, name),
-            None => Err(AllocError),
-        },
+        Err(Stop::Refused(why)) => refused(alloc, why, name),
+        Err(Stop::Memory) => Err(AllocError),
     }
 }

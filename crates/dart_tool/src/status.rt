@@ -62,7 +62,7 @@ pub enum Refusal {
 }
 
 impl Refusal {
-    /// The refusal for a lexical reason, or None for want of memory, which is none.
+    /// The refusal for a lexical reason, or None where it is being out of memory.
     pub fn of_lexis(fault: LexFault) -> Option<Refusal>
         ensures { result ≡ lexical_refusal fault }
     {

@@ -3,6 +3,7 @@ use crate::laws::dart_in_memory;
 use crate::status::Status;
 use crate::tool::dart;
 use dart_base::bytes::Bytes;
+use dart_base::limit::{UNIT_LINES, UNIT_WEIGHT};
 use dart_edge::gate::OpenGate;
 use dart_edge::memory::{MemSink, MemSources, NoFaultSink, NoFaultSources};
 use std::alloc::{AllocError, Global};
@@ -163,16 +164,15 @@ fn lexical_reasons(rt: HostRuntime) -> Result<(), AllocError> {
     Ok(())
 }
 
-// The limits of bytes, lines and weight, and what is just within that of lines.
+// The limits of lines and weight, and what is just within that of lines. conformance/ has that of bytes.
 #[test]
 fn sizes(rt: HostRuntime) -> Result<(), AllocError> {
     let alloc = rt.alloc();
     let words = words(alloc, &["run", "a.dart"])?;
     for (length, byte, want) in [
-        (64_000_001, b' ', "** refused TooLarge a.dart\n"),
-        (1_000_001, b'\n', "** refused TooLarge a.dart\n"),
-        (1_000_000, b'\n', NOT_BUILT),
-        (4_000_001, b'a', "** refused TooLarge a.dart\n"),
+        (UNIT_LINES + 1, b'\n', "** refused TooLarge a.dart\n"),
+        (UNIT_LINES, b'\n', NOT_BUILT),
+        (UNIT_WEIGHT + 1, b'a', "** refused TooLarge a.dart\n"),
     ] {
         let mut text = Vec::new(alloc);
         text.resize(length, byte)?;
@@ -258,7 +258,7 @@ fn faults(rt: HostRuntime) -> Result<(), AllocError> {
 const TEN_STATEMENTS: &str =
     "main() { var a = 1; int b = a + 2; String c = 'text'; print(a); print(b); print(c); dynamic d = a + b + 4; print(d); print('last'); print(d + d); }";
 
-// Runs the text, and accepts its outcome, or want of memory after a front of it.
+// Runs the text, and accepts its outcome, or Memory after a prefix of it.
 fn run_in_little_memory<R: Abort + Threads + Wait + Sync>(
     rt: &R,
     alloc: Global,
@@ -280,7 +280,7 @@ fn run_in_little_memory<R: Abort + Threads + Wait + Sync>(
 }
 
 #[test]
-fn want_of_memory(rt: HostRuntime) {
+fn out_of_memory(rt: HostRuntime) {
     for (text, want) in [
         (ONE_SUM, "3\n"),
         (TEN_STATEMENTS, "1\n3\ntext\n8\nlast\n16\n"),

@@ -24,7 +24,8 @@ const USAGE: &[u8] =
 // Writes an outcome, and answers its status.
 fn deliver<K: Sink>(sink: &mut K, status: Status, bytes: &[u8]) -> Status
     requires { is_cut_short status ≡ false }
-    ensures delivers { Delivers (record { status = status; bytes = bytes.now }) result (K.written sink.old) (K.written sink.new) }
+    ensures delivers { Delivers (record { status = status; bytes = bytes.now }) result
+        (K.written sink.old) (K.written sink.new) }
     ensures cause { Counts (is_write_fault result) (K.faults sink.old) (K.faults sink.new) }
     ensures reads { is_read_fault result ≡ false }
 {
@@ -38,7 +39,8 @@ fn deliver<K: Sink>(sink: &mut K, status: Status, bytes: &[u8]) -> Status
 // `run FILE`
 fn run_file<S: Sources, K: Sink>(alloc: Global, file: &str, sources: &mut S, sink: &mut K) -> Status
     ensures answer { IfSome (S.files sources.old) (λ files.
-        Answers (FileGives file.now (file_of files file.now)) result (K.written sink.old) (K.written sink.new)) }
+        Answers (FileGives file.now (file_of files file.now)) result
+        (K.written sink.old) (K.written sink.new)) }
     ensures usage { result ≡ Status.Usage → ⊥ }
     ensures unread { result ≡ Status.ReadFault → K.written sink.new ≡ K.written sink.old }
     ensures files { S.files sources.new ≡ S.files sources.old }
@@ -66,7 +68,7 @@ pub fn dart<R: Threads + Wait + Sync, S: Sources, K: Sink, G: Gate>(
     gate: &G,
 ) -> Status
     // Where the source tells its files: the status and the bytes are the outcome's, or the call was cut
-    // short and what was written is a front of the outcome's bytes.
+    // short and what was written is a prefix of the outcome's bytes.
     ensures answer { IfSome (S.files sources.old) (λ files.
         Answers (IsOutcome (map string_bytes words.now) files) result (K.written sink.old) (K.written sink.new)) }
 

@@ -1,0 +1,29 @@
+-- A text is the source of one program at most.
+use Rattle.std.proofs.Common.{◌≡◌, ◌∙◌, sym, ap, subst, ℕ, List, []}
+use Rattle.dart_token.specs.declared.token.Token.{Token}
+use Rattle.dart_lex.specs.Spelling.{Spells}
+use Rattle.dart_lex.proofs.LexLaws.{one_spelling}
+use Rattle.dart_tool.specs.declared.subset.program.Statement.{Statement}
+use Rattle.dart_tool.specs.Subset.Names.{Fits}
+use Rattle.dart_tool.specs.Subset.Terminal.{Terminal, terminals}
+use Rattle.dart_tool.specs.Subset.Program.{program_terminals, SpellsTerminals, SpellsProgram, IsSource}
+use Rattle.dart_tool.proofs.SubsetLaws.Printing.{one_printing}
+
+-- the terminals of a text that spells these tokens
+spelled_terminals : (text : List ℕ) (tokens : List Token) (list : List Terminal) → Spells 0 text tokens → SpellsTerminals text list → list ≡ terminals tokens
+spelled_terminals text tokens list spelled (others, also, e) = sym e ∙ ap terminals (one_spelling 0 text others tokens also spelled)
+
+-- a text spells one program at most
+pub one_program : (text : List ℕ) (p q : List Statement) → SpellsProgram text p → SpellsProgram text q → p ≡ q
+one_program text p q a b =
+    let (tokens, spelled, e) = b.spelled in
+    one_printing p q (spelled_terminals text tokens (program_terminals p) spelled a.spelled ∙ e)
+
+-- a text that spells a program whose names don't fit is the source of none
+pub no_source : (text : List ℕ) (tokens : List Token) (q : List Statement) → Spells 0 text tokens → program_terminals q ≡ terminals tokens → (Fits [] q → ⊥) → (p : List Statement) → IsSource text p → ⊥
+no_source text tokens q spelled printed none p source =
+    none (subst (Fits []) (one_printing p q (spelled_terminals text tokens (program_terminals p) spelled source.spells.spelled ∙ sym printed)) source.fits)
+
+-- and so is one that spells tokens of no program
+pub no_program : (text : List ℕ) (tokens : List Token) → Spells 0 text tokens → ((p : List Statement) → program_terminals p ≡ terminals tokens → ⊥) → (p : List Statement) → IsSource text p → ⊥
+no_program text tokens spelled none p source = none p (spelled_terminals text tokens (program_terminals p) spelled source.spells.spelled)
