@@ -6,6 +6,7 @@
 root=$(dirname -- "$(readlink -f -- "$0")")
 program=$root/build/dart
 stamp=$root/build/sources
+log=$root/build/log
 
 # One line for each file that the program is built from: what it is called, how long it is and when it changed.
 sources() {
@@ -17,19 +18,67 @@ is_current() {
     [ -x "$program" ] && [ -f "$stamp" ] && [ "$(sources)" = "$(cat -- "$stamp")" ]
 }
 
-fail() {
+say() {
     printf 'dart: %s\n' "$1" >&2
+}
+
+fail() {
+    say "$1"
     exit 125
+}
+
+# The crates that the program is built from, lowest first, as crates.txt has them.
+crates() {
+    awk -F: '
+        !/^#/ && NF > 1 { split($1, words, " "); name[++n] = words[1]; below[n] = $2 }
+        END {
+            needed["dart"]
+            for (i = n; i > 0; i--) if (name[i] in needed) {
+                list = name[i] " " list
+                k = split(below[i], words, " ")
+                for (j = 1; j <= k; j++) needed[words[j]]
+            }
+            print list
+        }' "$root/crates.txt"
+}
+
+# How far the proof is that writes the log: the crate that it has come to, and how many of its functions are checked.
+progress() {
+    awk -v names="$1" '
+        BEGIN { n = split(names, name, " "); at = 1 }
+        {
+            for (i = at + 1; i <= n; i++)
+                if (index($0, " " name[i] "::") || $0 ~ "^rt: chose .* for " name[i] "$") { at = i; checked = "" }
+        }
+        /^so far: [0-9]+ of [0-9]+ functions/ { checked = ": " $3 " of " $5 " functions" }
+        /^logic=proved/ && at < n { at++; checked = "" }
+        END { printf "crate %d of %d, %s%s\n", at, n, name[at], checked }' "$log"
+}
+
+# Says it each time that it has changed, as long as the launcher is there.
+show_progress() {
+    names=$(crates)
+    shown=
+    while sleep 2 2>/dev/null && kill -0 $$ 2>/dev/null; do
+        now=$(progress "$names")
+        [ "$now" = "$shown" ] || say "$now"
+        shown=$now
+    done
 }
 
 # Proves and builds the program by a run of it, whose answer is known.
 build() {
     command -v rt >/dev/null || fail "the toolchain's command rt isn't on the path"
-    printf 'dart: proving and building the program; the first time takes minutes\n' >&2
+    say 'proving and building the program; the first time takes minutes'
+    say "unproved, a program runs in seconds: cd $root/crates/dart && rt try --data a.dart=FILE -- run a.dart"
     before=$(sources)
-    log=$root/build/log
+    : >"$log"
+    show_progress >/dev/null 9>&- &
+    showing=$!
     answer=$(cd -- "$root/crates/dart" && rt run -- run data/a.dart 2>"$log" </dev/null 9>&-)
-    if [ "$?" != 0 ] || [ "$answer" != 3 ]; then
+    status=$?
+    kill "$showing" 2>/dev/null
+    if [ "$status" != 0 ] || [ "$answer" != 3 ]; then
         tail -n 5 -- "$log" >&2
         fail "the program can't be built; $log has all that was said"
     fi
