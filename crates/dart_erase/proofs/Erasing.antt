@@ -156,9 +156,13 @@ pub erasing_function_parameter : (result_type : Option ResultType) (this_dot : O
 unfolding erased.parameter_kind
 erasing_function_parameter result_type this_dot name params = ap erased.parameter_kind (view_function_parameter result_type this_dot name params)
 
-pub erasing_labelled : (label : Label) (next : Box Stmt Global) → erased.stmt (view.stmt (st.Labelled label next)) ≡ t.labelled label (erased.stmt (view.stmt next.value))
+erasing_labels : (labels : List Label) (next : t.Stmt) → erased.stmt (t.with_labels labels next) ≡ t.with_labels labels (erased.stmt next)
 unfolding erased.stmt
-erasing_labelled label next = ap erased.stmt (view_labelled label next)
+erasing_labels [] next = refl
+erasing_labels (label ∷ labels) next = ap (t.labelled label) (erasing_labels labels next)
+
+pub erasing_labelled : (labels : Vec Label Global) (next : Box Stmt Global) → erased.stmt (view.stmt (st.Labelled labels next)) ≡ t.with_labels labels.items (erased.stmt (view.stmt next.value))
+erasing_labelled labels next = ap erased.stmt (view_labelled labels next) ∙ erasing_labels labels.items (view.stmt next.value)
 
 pub erasing_block_stmt : (inside : Block) → erased.stmt (view.stmt (st.Block inside)) ≡ t.block_stmt (erased.block (block_of inside))
 unfolding erased.stmt

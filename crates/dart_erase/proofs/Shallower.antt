@@ -9,7 +9,7 @@ use Rattle.dart_tree.specs.UnitView.{maybe}
 use Rattle.dart_erase.specs.Erased as erased
 use Rattle.dart_erase.specs.UnitErased as of_unit
 use Rattle.dart_tree.specs.Depth as height
-use Rattle.dart_tree.specs.Depth.{type_height, type_arguments_height, type_option_height, result_height, kind_height, try_kind_height, call_height}
+use Rattle.dart_tree.specs.Depth.{type_height, type_arguments_height, kind_height, try_kind_height, call_height}
 
 same : (n : ℕ) → n ≤ n
 same n = omega arith

@@ -7,8 +7,7 @@ ghost use Rattle.dart_tree.specs.View as view;
 use crate::expression::{erase_expr, erase_items, erase_value};
 use crate::leaf::{erase_kind, erase_parameter_type};
 use dart_node::leaf::{
-    try_clone_dot_names, try_clone_identifier, try_clone_jump, try_clone_label, try_clone_labels,
-    try_clone_try_kind,
+    try_clone_dot_names, try_clone_identifier, try_clone_jump, try_clone_labels, try_clone_try_kind,
 };
 use dart_node::make::{expression, statement};
 use dart_tree::parameter::{Annotation, Parameter, ParameterKind, Parameters, VariableKind};
@@ -135,10 +134,10 @@ pub fn erase_stmt(alloc: Global, tree: &Stmt) -> Result<Stmt, AllocError>
     ensures { IfOk result (λ x. view.stmt x ≡ erased.stmt (view.stmt tree.now)) }
 {
     match tree {
-        Stmt::Labelled(label, statement) => {
-            let label = try_clone_label(alloc, label)?;
+        Stmt::Labelled(labels, statement) => {
+            let labels = try_clone_labels(alloc, labels)?;
             let statement = erase_stmt(alloc, statement)?;
-            statement::labelled(alloc, label, statement)
+            statement::labelled(alloc, labels, statement)
         }
         Stmt::Block(block) => {
             let block = erase_block(alloc, block)?;

@@ -13,7 +13,7 @@ use Rattle.dart_tree.specs.Tree.{Expr, Stmt, Block, SwitchParts, TryParts}
 use Rattle.dart_tree.specs.Tokens.{expr_tokens, operand_tokens, primary_tokens, arguments_tokens, parameters_tokens, stmt_tokens, loop_tokens, block_tokens, stmts_tokens, items_tokens, variables_tokens, function_tokens, switch_parts_tokens, try_parts_tokens}
 use Rattle.dart_syntax.specs.Phrases.{made}
 use Rattle.dart_syntax.specs.Leaves.{sign_tokens, word, word_tokens, begins_with_no_brace}
-use Rattle.dart_syntax.specs.Statements.{StmtNodes, Within, to_stmts, with_labels, to_default, to_cases, to_finally, is_shut, condition_over, block_over, if_over, updates_over, for_over, while_over, do_over, switch_parts_over, switch_over, try_part_over, append_parts, join_parts, finally_over, try_over, compound_over, jump_of, expression_of, unlabelled_of, stmt_of, nodes_over, no_nodes, within}
+use Rattle.dart_syntax.specs.Statements.{StmtNodes, Within, to_stmts, to_default, to_cases, to_finally, is_shut, condition_over, block_over, if_over, updates_over, for_over, while_over, do_over, switch_parts_over, switch_over, try_part_over, append_parts, join_parts, finally_over, try_over, compound_over, jump_of, expression_of, unlabelled_of, stmt_of, nodes_over, no_nodes, within}
 use Rattle.dart_syntax.specs.Agreement.{Agrees, StmtsAgree, WithinAgrees, section_tokens, bare_parameter_tokens}
 use Rattle.dart_syntax.proofs.Agreeing.{no_room_agrees, seq_agrees, seq_if_agrees, opt_agrees, many_agrees, some_agrees, either_agrees, rather_agrees, perhaps_agrees, made_agrees, such_tokens_agrees}
 use Rattle.dart_syntax.proofs.AgreeingTypes.{sign_agrees, word_agrees, named_agrees, identifier_agrees, types_within_agree}
@@ -28,7 +28,7 @@ unfolding stmts_tokens
 said_stmts [] = refl
 said_stmts (x ∷ xs) = ap (λ l. stmt_tokens x ++ l) (said_stmts xs)
 
-pub said_labels : (xs : List Label) (x : Stmt) → stmt_tokens (with_labels xs x) ≡ flat_map label_tokens xs ++ stmt_tokens x
+pub said_labels : (xs : List Label) (x : Stmt) → stmt_tokens (t.with_labels xs x) ≡ flat_map label_tokens xs ++ stmt_tokens x
 unfolding stmt_tokens
 said_labels [] x = refl
 said_labels (y ∷ ys) x = simp (said_labels ys x, append_assoc)

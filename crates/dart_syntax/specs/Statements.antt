@@ -80,10 +80,6 @@ abbrev pub to_stmts : List Stmt → Stmts
 to_stmts [] = t.no_stmts
 to_stmts (x ∷ more) = t.stmt x (to_stmts more)
 
-abbrev pub with_labels : List Label → Stmt → Stmt
-with_labels [] inner = inner
-with_labels (x ∷ more) inner = t.labelled x (with_labels more inner)
-
 -- statements with a condition in its parentheses
 abbrev pub an_if : Place → Place × (Expr × Place) → Stmt → Stmt
 an_if word (opening, (condition, closing)) body = t.if_stmt word opening condition closing body
@@ -122,7 +118,7 @@ to_finally (Some (word, block)) = t.try_part (finally_part word) block t.no_try_
 -- ---- an `else` belongs to the nearest `if`
 
 -- the statement ends in no `if` without `else`
-mutual
+unfoldable mutual
   pub is_shut : Stmt → Bool
   is_shut (t.labelled name statement) = is_shut statement
   is_shut (t.if_stmt word opening condition closing first) = false
@@ -406,7 +402,7 @@ module _ (here : StmtNodes) where
 
   -- statement: {label} nonLabelledStatement
   abbrev pub stmt_of : Phrase Stmt
-  stmt_of = made₂ stmt_tokens with_labels (many label ~ unlabelled_of)
+  stmt_of = made₂ stmt_tokens t.with_labels (many label ~ unlabelled_of)
 
 -- ---- the whole, by the number of nodes that may stand above one another
 

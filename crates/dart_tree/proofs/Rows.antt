@@ -285,9 +285,9 @@ pub view_function_parameter : (result_type : Option ResultType) (this_dot : Opti
 unfolding view.parameter_kind
 view_function_parameter result_type this_dot name params = refl
 
-pub view_labelled : (label : Label) (next : Box Stmt Global) → view.stmt (st.Labelled label next) ≡ t.labelled label (view.stmt next.value)
+pub view_labelled : (labels : Vec Label Global) (next : Box Stmt Global) → view.stmt (st.Labelled labels next) ≡ t.with_labels labels.items (view.stmt next.value)
 unfolding view.stmt
-view_labelled label next = refl
+view_labelled labels next = refl
 
 abbrev row_block_stmt_inside : Stmt → (n : Count) × Row_of-Stmt n
 row_block_stmt_inside (st.Block' o_inside n_inside row c_inside) = (_, row)

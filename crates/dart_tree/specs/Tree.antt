@@ -1,5 +1,5 @@
 -- Expressions, parameters and statements without where they lie in memory.
-use Rattle.std.specs.Prelude.{ℕ, List, Option}
+use Rattle.std.specs.Prelude.{ℕ, List, Option, [], ◌∷◌}
 use Rattle.dart_base.specs.declared.place.Place.{Place}
 use Rattle.dart_tree.specs.declared.identifier.Identifier.{Identifier}
 use Rattle.dart_tree.specs.declared.identifier.DotName.{DotName}
@@ -148,3 +148,8 @@ mutual
   pub data TryParts : Type 0 where
     no_try_parts : TryParts
     try_part : y.TryKind → Block → TryParts → TryParts
+
+-- the statement behind its labels (17.13 Labels)
+abbrev pub with_labels : List Label → Stmt → Stmt
+with_labels [] inner = inner
+with_labels (x ∷ more) inner = labelled x (with_labels more inner)

@@ -139,7 +139,7 @@ unfoldable mutual
       t.function_parameter (result_option result_type) this_dot name (parameters given)
 
   pub stmt : Stmt → t.Stmt
-  stmt (st.Labelled' label _ statement) = t.labelled label (stmt statement)
+  stmt (st.Labelled' labels _ statement) = t.with_labels labels.items (stmt statement)
   stmt (st.Block' block_opening _ block_statements block_closing) =
       t.block_stmt (t.the_block block_opening (stmts block_statements) block_closing)
   stmt (st.Variables declared) = t.variables_stmt (variables declared)

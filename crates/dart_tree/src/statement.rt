@@ -17,8 +17,8 @@ pub struct Block {
 /// A statement (ECMA-408, 17 Statements).
 #[cycle(tree)]
 pub enum Stmt {
-    /// `a: b;` (17.13 Labels)
-    Labelled(Label, Box<Stmt>),
+    /// `a: b: c;` (17.13 Labels)
+    Labelled(Vec<Label>, Box<Stmt>),
     /// `{ a; }` (17.1 Blocks)
     Block(Block),
     /// `var a = b;` (17.3 Local Variable Declaration)

@@ -1,5 +1,5 @@
 -- The tokens that each constructor of the code spells.
-use Rattle.std.proofs.Common.{◌≡◌, List, [], ◌∷◌, ◌++◌, refl, ap, append_assoc, rules, Vec, Box, Global, Option}
+use Rattle.std.proofs.Common.{◌≡◌, ◌∙◌, List, [], ◌∷◌, ◌++◌, refl, ap, append_assoc, rules, Vec, Box, Global, Option}
 use Rattle.dart_base.specs.declared.place.Place.{Place}
 use Rattle.dart_token.specs.declared.sign.Sign.TheVariants as sg
 use Rattle.dart_token.specs.declared.word.Word.TheVariants as w
@@ -47,9 +47,10 @@ use Rattle.dart_tree.specs.declared.types.TypeNode.{TypeNode}
 use Rattle.dart_tree.specs.declared.types.TypeArguments.{TypeArguments}
 use Rattle.dart_tree.specs.declared.types.ResultType.{ResultType}
 use Rattle.dart_tree.specs.declared.parameter.VariableKind.{VariableKind}
+use Rattle.dart_tree.specs.Tree as t
 use Rattle.dart_tree.specs.View as view
 use Rattle.dart_tree.specs.Lists.{block_of, tails_of, pieces_of, selectors_of, cascades_of, items_of, entries_of, parameter_list_of, metadata_of, stmts_of, more_variables_of, switch_parts_of, try_parts_of}
-use Rattle.dart_tree.specs.LeafTokens.{sign_at, word_at, creation_token, maybe_sign, maybe_word, operator_tokens, maybe_operator, maybe_dot_name, dot_names_tokens, identifier_tokens, atom_tokens, maybe_this, label_tokens, maybe_label, labels_tokens, jump_tokens, piece_token, opening_bracket, closing_bracket, opening_parenthesis, closing_parenthesis, type_tokens, type_arguments_tokens, maybe_result, kind_tokens, try_kind_tokens}
+use Rattle.dart_tree.specs.LeafTokens.{sign_at, word_at, creation_token, maybe_sign, maybe_word, operator_tokens, maybe_operator, maybe_dot_name, dot_names_tokens, identifier_tokens, atom_tokens, maybe_this, maybe_label, labels_tokens, jump_tokens, piece_token, opening_bracket, closing_bracket, opening_parenthesis, closing_parenthesis, type_tokens, type_arguments_tokens, maybe_result, kind_tokens, try_kind_tokens}
 use Rattle.dart_tree.specs.Tokens.{switch_word, primary_tokens, loop_tokens, expr_tokens, operand_tokens, selector_tokens, value_tokens, parameter_kind_tokens, stmt_tokens, body_tokens, arguments_tokens, parameters_tokens, parameter_tokens, annotation_tokens, variables_tokens, function_tokens, block_tokens, tails_tokens, pieces_tokens, selectors_tokens, cascades_tokens, items_tokens, entries_tokens, parameter_list_tokens, metadata_tokens, stmts_tokens, more_variables_tokens, switch_parts_tokens, try_parts_tokens}
 use Rattle.dart_tree.proofs.Rows.{view_assign, view_plain, view_throw, view_conditional, view_binary, view_is_type, view_as_type, view_prefix, view_postfix, view_primary, view_super_access, view_bare_super, view_atom, view_text, view_list_literal, view_map_literal, view_new_object, view_function_literal, view_parenthesized, view_member, view_index, view_call, view_omitted, view_given, view_plain_parameter, view_function_parameter, view_labelled, view_block_stmt, view_variables_stmt, view_function_stmt, view_if_stmt, view_if_else, view_loop, view_switch_stmt, view_try_stmt, view_return_stmt, view_jump, view_expression_stmt, view_for_loop, view_for_variables, view_for_in, view_while_loop, view_do_loop, view_arrow_body, view_block_body, view_no_body, view_the_arguments, view_the_parameters, view_the_parameter, view_the_annotation, view_the_variables, view_the_function}
 
@@ -157,9 +158,13 @@ pub spelt_function_parameter : (result_type : Option ResultType) (this_dot : Opt
 unfolding parameter_kind_tokens
 spelt_function_parameter result_type this_dot name params = ap parameter_kind_tokens (view_function_parameter result_type this_dot name params)
 
-pub spelt_labelled : (label : Label) (next : Box Stmt Global) → stmt_tokens (view.stmt (st.Labelled label next)) ≡ label_tokens label ++ stmt_tokens (view.stmt next.value)
+spelt_labels : (labels : List Label) (next : t.Stmt) → stmt_tokens (t.with_labels labels next) ≡ labels_tokens labels ++ stmt_tokens next
 unfolding stmt_tokens
-spelt_labelled label next = ap stmt_tokens (view_labelled label next)
+spelt_labels [] next = refl
+spelt_labels (label ∷ labels) next = simp (spelt_labels labels next, append_assoc)
+
+pub spelt_labelled : (labels : Vec Label Global) (next : Box Stmt Global) → stmt_tokens (view.stmt (st.Labelled labels next)) ≡ labels_tokens labels.items ++ stmt_tokens (view.stmt next.value)
+spelt_labelled labels next = ap stmt_tokens (view_labelled labels next) ∙ spelt_labels labels.items (view.stmt next.value)
 
 pub spelt_block_stmt : (inside : Block) → stmt_tokens (view.stmt (st.Block inside)) ≡ block_tokens (block_of inside)
 unfolding stmt_tokens

@@ -50,8 +50,8 @@ impl Writer {
         ensures { OnOk result (Appends self.old self.new (stmt_tokens (view.stmt tree.now))) }
     {
         match tree {
-            Stmt::Labelled(label, statement) => {
-                self.label(label)?;
+            Stmt::Labelled(labels, statement) => {
+                self.labels(labels)?;
                 self.statement(statement)
             }
             Stmt::Block(block) => self.block(block),

@@ -17,7 +17,7 @@ use Rattle.dart_tree.specs.Depth.{height_if, highest, catch_height}
 use Rattle.dart_syntax.specs.Phrases.{made}
 use Rattle.dart_syntax.specs.Leaves.{sign_tokens, word, word_tokens, begins_with_no_brace}
 use Rattle.dart_syntax.specs.Expressions.{ExprNodes, literal_over}
-use Rattle.dart_syntax.specs.Statements.{StmtNodes, Within, to_stmts, with_labels, to_default, to_cases, to_finally, is_shut, condition_over, block_over, if_over, updates_over, for_over, while_over, do_over, switch_parts_over, switch_over, try_part_over, append_parts, join_parts, finally_over, try_over, compound_over, jump_of, expression_of, declaration_of, other_statement_of, unlabelled_of, stmt_of, nodes_over, no_nodes, within}
+use Rattle.dart_syntax.specs.Statements.{StmtNodes, Within, to_stmts, to_default, to_cases, to_finally, is_shut, condition_over, block_over, if_over, updates_over, for_over, while_over, do_over, switch_parts_over, switch_over, try_part_over, append_parts, join_parts, finally_over, try_over, compound_over, jump_of, expression_of, declaration_of, other_statement_of, unlabelled_of, stmt_of, nodes_over, no_nodes, within}
 use Rattle.dart_syntax.specs.Agreement.{StmtsAgree}
 use Rattle.dart_syntax.proofs.AgreeingStages.{said_stmts, said_labels, said_switch_parts, said_finally, said_append, said_parts, within_agrees}
 use Rattle.syntax_measures.specs.Relations.{Relation, StmtsRelate, WithinRelate, written_catch_height}
@@ -35,7 +35,7 @@ unfolding height.stmts_height
 high_stmts [] = refl
 high_stmts (x ∷ xs) = ap (λ (k : ℕ). max (height.stmt_height x) k) (high_stmts xs)
 
-high_labels : (xs : List Label) (x : Stmt) → height.stmt_height (with_labels xs x) ≡ height.stmt_height x
+high_labels : (xs : List Label) (x : Stmt) → height.stmt_height (t.with_labels xs x) ≡ height.stmt_height x
 unfolding height.stmt_height
 high_labels [] x = refl
 high_labels (y ∷ ys) x = high_labels ys x

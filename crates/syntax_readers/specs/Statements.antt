@@ -16,7 +16,7 @@ use Rattle.grammar_laws.specs.Codes.{has}
 use Rattle.grammar_laws.specs.Readers.{Reader, Outcome, and_then, nothing, always, mapped, both_by, starts, starts_two, either, option, followed, many, separated, by_first, tried, cons_to}
 use Rattle.grammar_laws.specs.Halves.{strict}
 use Rattle.dart_syntax.specs.Expressions.{plain_items}
-use Rattle.dart_syntax.specs.Statements.{to_stmts, with_labels, an_if, an_if_else, a_while, a_do, a_switch, is_shut, on_parts}
+use Rattle.dart_syntax.specs.Statements.{to_stmts, an_if, an_if_else, a_while, a_do, a_switch, is_shut, on_parts}
 use Rattle.token_codes.specs.Codes.{class_of, names, on_code, sign_code, word_code, these, this_word}
 use Rattle.token_codes.specs.Leaves.{sign, word, identifier, contextual, comma_name, label}
 use Rattle.syntax_readers.specs.Combinators.{◌~◌, made₂, made₃, made₅, made₈, made₉, always_gives, many_where, halting, past_name, behind_brackets}
@@ -362,7 +362,7 @@ unlabelled here = either (starts class_of declaration_first)
 
 -- statement: {label} nonLabelledStatement
 unfoldable pub stmt_of : StmtReaders → Reader Token Stmt
-stmt_of here = made₂ with_labels (many_where label_comes label ~ past_name (unlabelled here))
+stmt_of here = made₂ t.with_labels (many_where label_comes label ~ past_name (unlabelled here))
 
 -- ---- the stages
 

@@ -1,12 +1,12 @@
-use Rattle.std.proofs.Common.{◌∙◌, ap, sym, refl, List, ◌++◌, None}
+use Rattle.std.proofs.Common.{◌∙◌, ap, sym, refl, List, ◌++◌}
 use Rattle.dart_tree.specs.declared.expression.Tail.{Tail}
 use Rattle.dart_tree.specs.declared.expression.StringPiece.{StringPiece}
 use Rattle.dart_tree.specs.declared.expression.Selector.{Selector}
 use Rattle.dart_tree.specs.declared.expression.Cascade.{Cascade}
 use Rattle.dart_tree.specs.declared.expression.Item.{Item}
 use Rattle.dart_tree.specs.declared.expression.Entry.{Entry}
-use Rattle.dart_tree.specs.declared.parameter.Parameter.{Parameter, out-Parameter}
-use Rattle.dart_tree.specs.declared.parameter.Annotation.{Annotation, out-Annotation}
+use Rattle.dart_tree.specs.declared.parameter.Parameter.{Parameter}
+use Rattle.dart_tree.specs.declared.parameter.Annotation.{Annotation}
 use Rattle.dart_tree.specs.declared.statement.Stmt.{Stmt}
 use Rattle.dart_tree.specs.declared.statement.Variable.{Variable}
 use Rattle.dart_tree.specs.declared.statement.SwitchPart.{SwitchPart}
@@ -17,10 +17,6 @@ use Rattle.dart_tree.specs.declared.expression.Primary.{Primary}
 use Rattle.dart_tree.specs.declared.expression.Value.{Value}
 use Rattle.dart_tree.specs.declared.statement.Loop.{Loop}
 use Rattle.dart_tree.specs.declared.statement.Body.{Body}
-use Rattle.dart_tree.specs.declared.expression.Arguments.{out-Arguments}
-use Rattle.dart_tree.specs.declared.parameter.Parameters.{out-Parameters}
-use Rattle.dart_tree.specs.declared.statement.Variables.{out-Variables}
-use Rattle.dart_tree.specs.declared.statement.Function.{out-Function}
 use Rattle.dart_erase.specs.Erased as erased
 use Rattle.dart_tree.specs.View as view
 use Rattle.dart_tree.specs.Lists.{tails_of, pieces_of, selectors_of, cascades_of, items_of, entries_of, parameter_list_of, metadata_of, stmts_of, more_variables_of, switch_parts_of, try_parts_of}
@@ -180,7 +176,7 @@ pub statement::erase_block-returns : goal.statement::erase_block-returns
 statement::erase_block-returns t c = rw (c.in_ok-statements.ensures) (sym (erasing_the_block c.args.tree.now))
 
 pub statement::erase_stmt-returns-in_ok-statement-in-Labelled : goal.statement::erase_stmt-returns-in_ok-statement-in-Labelled
-statement::erase_stmt-returns-in_ok-statement-in-Labelled t c = become view.stmt c.labelled.result c.labelled.ensures (rw (c.in_ok-label-in-Labelled.ensures, c.in_ok-statement-in-Labelled.ensures, c.deref.ensures) refl ∙ sym (ap (λ (x : Stmt). erased.stmt (view.stmt x)) c.in-Labelled.is ∙ erasing_labelled c.in-Labelled.label c.in-Labelled.statement))
+statement::erase_stmt-returns-in_ok-statement-in-Labelled t c = become view.stmt c.labelled.result c.labelled.ensures (rw (c.in_ok-labels-in-Labelled.ensures, c.in_ok-statement-in-Labelled.ensures, c.deref.ensures) refl ∙ sym (ap (λ (x : Stmt). erased.stmt (view.stmt x)) c.in-Labelled.is ∙ erasing_labelled c.in-Labelled.labels c.in-Labelled.statement))
 
 pub statement::erase_stmt-returns-in_ok-block-in-Block : goal.statement::erase_stmt-returns-in_ok-block-in-Block
 statement::erase_stmt-returns-in_ok-block-in-Block t c = c.block_statement.ensures ∙ rw (c.in_ok-block-in-Block.ensures) refl ∙ sym (ap (λ (x : Stmt). erased.stmt (view.stmt x)) c.in-Block.is ∙ erasing_block_stmt c.in-Block.block)

@@ -14,12 +14,15 @@ use dart_tree::statement::{
 use dart_tree::types::ResultType;
 use std::alloc::{AllocError, Global};
 
-/// `a: b;` (ECMA-408, 17.13 Labels).
-pub fn labelled(alloc: Global, label: Label, statement: Stmt) -> Result<Stmt, AllocError>
-    ensures { IfOk result (λ x. view.stmt x ≡ t.labelled label (view.stmt statement)) }
+/// `a: b: c;`, or the statement alone where there are no labels (ECMA-408, 17.13 Labels).
+pub fn labelled(alloc: Global, labels: Vec<Label>, statement: Stmt) -> Result<Stmt, AllocError>
+    ensures { IfOk result (λ x. view.stmt x ≡ t.with_labels labels.items (view.stmt statement)) }
 {
+    if labels.is_empty() {
+        return Ok(statement);
+    }
     let statement = Box::new(alloc, statement)?;
-    Ok(Stmt::Labelled(label, statement))
+    Ok(Stmt::Labelled(labels, statement))
 }
 
 /// `{ a; b; }` (ECMA-408, 17.1 Blocks).

@@ -157,9 +157,9 @@ parameter_kind-returns-in_ok-identifier-in-Function u c =
     let e = ap (λ (x : ParameterKind). parameter_kind_tokens (view.parameter_kind x)) c.in-Function.is ∙ spelt_function_parameter c.in-Function.result_type c.in-Function.this_dot c.in-Function.name c.in-Function.parameters in
     rw e (search (rules, append_assoc))
 
-pub statement-returns-in_ok-label-in-Labelled : goal.statement-returns-in_ok-label-in-Labelled
-statement-returns-in_ok-label-in-Labelled u c =
-    let e = ap (λ (x : Stmt). stmt_tokens (view.stmt x)) c.in-Labelled.is ∙ spelt_labelled c.in-Labelled.label c.in-Labelled.statement in
+pub statement-returns-in_ok-labels-in-Labelled : goal.statement-returns-in_ok-labels-in-Labelled
+statement-returns-in_ok-labels-in-Labelled u c =
+    let e = ap (λ (x : Stmt). stmt_tokens (view.stmt x)) c.in-Labelled.is ∙ spelt_labelled c.in-Labelled.labels c.in-Labelled.statement in
     rw e (search (rules, append_assoc))
 
 pub statement-returns-in-Block : goal.statement-returns-in-Block
