@@ -1,5 +1,5 @@
 // A cursor over tokens.
-ghost use Rattle.std.specs.Prelude.{◌≡◌, [], ◌∷◌, ◌<◌, drop, length, take, IfOk};
+ghost use Rattle.std.specs.Prelude.{◌≡◌, [], ◌∷◌, ◌<◌, drop, length, take};
 ghost use Rattle.grammar_laws.specs.Codes.{has};
 ghost use Rattle.grammar_laws.specs.Readers.{starts, option};
 ghost use Rattle.dart_token.specs.declared.sign.Sign.TheVariants as s;
@@ -16,15 +16,16 @@ use crate::codes::{
     TRUE, class_of, sign_code, word_code,
 };
 use crate::error::ReadFault;
+use crate::value::{atom_of, created, headed, name_of, placed_text};
 use dart_base::bytes::Bytes;
 use dart_base::place::Place;
 use dart_token::sign::Sign;
-use dart_token::token::{Quote, Token, TokenKind};
+use dart_token::token::{Quote, Token};
 use dart_token::word::Word;
 use dart_tree::expression::{Atom, Creation};
 use dart_tree::identifier::{CommaName, DotName, Identifier, Label};
 use dart_tree::parameter::ThisDot;
-use std::alloc::{AllocError, Global};
+use std::alloc::Global;
 use std::marker::Model;
 
 /// The tokens that are still to be read, the code of the next, and for each of them how far it is to behind the bracket that
@@ -446,85 +447,4 @@ impl<'a> Cursor<'a> {
         let token = self.take();
         Ok(headed(alloc, token)?)
     }
-}
-
-// The identifier that a token is.
-fn name_of(alloc: Global, token: &Token) -> Result<Identifier, AllocError>
-    ensures { IfOk result (λ x. x ≡ spec.name_of token.now) }
-{
-    match token.kind {
-        TokenKind::Word(Word::Get) => Ok(Identifier::Get(token.place)),
-        TokenKind::Word(Word::Set) => Ok(Identifier::Set(token.place)),
-        _ => Ok(Identifier::Name(
-            token.place,
-            Bytes::from_slice(alloc, token.lexeme.as_slice())?,
-        )),
-    }
-}
-
-// The expression that a token is.
-fn atom_of(alloc: Global, token: &Token) -> Result<Atom, AllocError>
-    ensures { IfOk result (λ x. x ≡ spec.atom_of token.now) }
-{
-    let place = token.place;
-    match token.kind {
-        TokenKind::Word(Word::This) => Ok(Atom::This(place)),
-        TokenKind::Word(Word::Null) => Ok(Atom::Null(place)),
-        TokenKind::Word(Word::True) => Ok(Atom::True(place)),
-        TokenKind::Word(Word::False) => Ok(Atom::False(place)),
-        TokenKind::Word(Word::Get) => Ok(Atom::Name(Identifier::Get(place))),
-        TokenKind::Word(Word::Set) => Ok(Atom::Name(Identifier::Set(place))),
-        TokenKind::Integer => Ok(Atom::Integer(
-            place,
-            Bytes::from_slice(alloc, token.lexeme.as_slice())?,
-        )),
-        _ => Ok(Atom::Name(Identifier::Name(
-            place,
-            Bytes::from_slice(alloc, token.lexeme.as_slice())?,
-        ))),
-    }
-}
-
-// The piece of a string that a token is.
-fn placed_text(alloc: Global, token: &Token) -> Result<PieceText, AllocError>
-    ensures { IfOk result (λ x. text_of x ≡ spec.placed_text token.now) }
-{
-    let text = Bytes::from_slice(alloc, token.lexeme.as_slice())?;
-    Ok(PieceText {
-        place: token.place,
-        text,
-    })
-}
-
-// What a token says of the object that is made.
-fn created(token: &Token) -> Creation
-    ensures { result ≡ spec.created token.now }
-{
-    match token.kind {
-        TokenKind::Word(Word::Const) => Creation::Const(token.place),
-        _ => Creation::New(token.place),
-    }
-}
-
-// The quote that a token opens.
-fn quote_of(token: &Token) -> Quote
-    ensures { result ≡ spec.quote_by token.now.kind }
-{
-    match token.kind {
-        TokenKind::Head(quote) => quote,
-        _ => Quote::Single,
-    }
-}
-
-// The first piece of a string that a token is.
-fn headed(alloc: Global, token: &Token) -> Result<HeadText, AllocError>
-    ensures { IfOk result (λ x. head_of x ≡ spec.headed token.now) }
-{
-    let quote = quote_of(token);
-    let text = Bytes::from_slice(alloc, token.lexeme.as_slice())?;
-    Ok(HeadText {
-        quote,
-        place: token.place,
-        text,
-    })
 }

@@ -5,3 +5,4 @@ pub mod brackets;
 pub mod codes;
 pub mod cursor;
 pub mod error;
+mod value;
