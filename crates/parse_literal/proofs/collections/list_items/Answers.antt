@@ -1,0 +1,20 @@
+use Rattle.std.proofs.Common.{sym, subst, ap, arith, Option}
+use Rattle.dart_base.specs.declared.place.Place.{Place}
+use Rattle.dart_tree.specs.Lists.{items_of}
+use Rattle.dart_tree.specs.Tree as tree
+use Rattle.dart_token.specs.declared.token.Token.{Token}
+use Rattle.grammar_laws.specs.Readers.{Outcome}
+use Rattle.token_cursor.specs.Gives.{GivesHigh}
+use Rattle.parse_nest.specs.Stages.{closed_at}
+use Rattle.parse_literal.specs.Views.{items_and_comma, items_and_comma_height}
+use Rattle.parse_literal.proofs.Listings.{no_items_are, no_items_height, some_items_are}
+use Rattle.parse_literal.proofs.collections.list_items.Goals as goal
+
+pub returns-then-not-sees_expr : goal.returns-then-not-sees_expr
+returns-then-not-sees_expr g c =
+    let list = items_of c.new.result.items in
+    let is = ap items_of c.new.ensures.items in
+    (no_items_are (closed_at c.args.depth) c.args.cursor.now list (sym c.if-not-sees_expr.ensures) is, no_items_height list is, omega arith)
+
+pub returns : goal.returns
+returns g c = subst (λ (o : Outcome Token (tree.Items × Option Place)). GivesHigh items_and_comma items_and_comma_height c.args.depth o c.some_items.result c.some_items.new.cursor) (sym (some_items_are (closed_at c.args.depth) c.args.cursor.now (sym c.if-not-sees_expr.ensures))) c.some_items.ensures
