@@ -1,0 +1,5 @@
+pub mod Labelling
+pub mod Opening
+pub mod Selecting
+pub mod Staged
+pub mod Trying

@@ -1,0 +1,14 @@
+use Rattle.parse_literal.specs.Views.{exprs_at}
+use Rattle.parse_primary.specs.Views.{open_primary, open_primary_height, closed_parenthesis}
+use Rattle.parse_primary.proofs.Trying.{sought_first, sought_second}
+use Rattle.parse_primary.proofs.parenthesis.rather_function.Goals as goal
+
+pub returns-in-Ok : goal.returns-in-Ok
+returns-in-Ok g c =
+    let d = c.args.depth in
+    sought_first open_primary open_primary_height d (exprs_at d).function (closed_parenthesis d) c.args.cursor.now c.function.new.cursor c.in-Ok.found c.in-Ok.ensures
+
+pub returns-in-Err-Stuck : goal.returns-in-Err-Stuck
+returns-in-Err-Stuck g c =
+    let d = c.args.depth in
+    sought_second open_primary open_primary_height d (exprs_at d).function (closed_parenthesis d) c.args.cursor.now c.fork-start.result c.function.new.cursor c.or_parenthesis.new.cursor c.or_parenthesis.result c.fork-start.ensures (rw c.in-Err-Stuck.field-0-is at c.in-Err-Stuck.ensures) c.or_parenthesis.ensures
