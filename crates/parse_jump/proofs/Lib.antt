@@ -1,0 +1,4 @@
+pub mod Behind
+pub mod Looking
+pub mod Loops
+pub mod Stages
