@@ -1,0 +1,19 @@
+use Rattle.std.proofs.Common.{◌≡◌, ℕ, suc, ◌+◌, ◌∙◌, sym, ap, drop, arith}
+use Rattle.grammar_laws.specs.Readers.{starts}
+use Rattle.token_codes.specs.Codes.{class_of, sign_codes}
+use Rattle.parse_unary.proofs.Signs.{seen_pass, seen_take, seen_over}
+use Rattle.parse_unary.proofs.operator.sees_any.Goals as goal
+
+pub returns-then-sees : goal.returns-then-sees
+returns-then-sees c =
+    sym (c.loop-sign.invariant ∙ seen_take c.args.signs.now c.loop-sign.sign-index _ c.args.cursor.now (omega (arith, c.loop-sign-test.true)) (sym c.if-sees.ensures))
+
+pub loop-sign-preserved : goal.loop-sign-preserved
+loop-sign-preserved c =
+    let next : suc c.loop-sign.sign-index ≡ c.loop-sign.sign-index + 1 = omega arith in
+    c.loop-sign.invariant
+    ∙ seen_pass c.args.signs.now c.loop-sign.sign-index _ c.args.cursor.now (omega (arith, c.loop-sign-test.true)) (sym c.if-sees.ensures)
+    ∙ ap (λ (n : ℕ). starts class_of (sign_codes (drop n c.args.signs.now)) c.args.cursor.now) next
+
+pub returns : goal.returns
+returns c = sym (c.loop-sign.invariant ∙ seen_over c.args.signs.now c.loop-sign.sign-index c.args.cursor.now (omega (arith, c.loop-sign-test.false)))

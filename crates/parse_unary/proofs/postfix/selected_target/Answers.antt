@@ -1,0 +1,29 @@
+use Rattle.std.proofs.lemmas.Result.{err_from_is_err_and}
+use Rattle.syntax_readers.specs.Levels.{target}
+use Rattle.parse_unary.specs.Views.{selected_reader, selected_view, open_operand, open_operand_height}
+use Rattle.parse_unary.proofs.Staged.{passes_selected, low_target, target_fails, target_refuses, target_gives, joined_high, joined_low}
+use Rattle.std.proofs.Common.{sym}
+use Rattle.parse_unary.proofs.postfix.selected_target.Goals as goal
+
+pub returns-in_err-parts : goal.returns-in_err-parts
+returns-in_err-parts g c =
+    let p = err_from_is_err_and c.from_residual.result c.from_residual.ensures.1 in
+    let d = c.args.depth in
+    rw (p.1, p.2) (passes_selected open_operand open_operand_height d d (selected_reader d c.args.cursor.now) (target (selected_reader d) c.args.cursor.now) c.in_err-parts.field-0.0 c.selected.new.cursor
+    (λ rest e. target_fails d c.args.cursor.now rest e) c.in_err-parts.ensures)
+
+pub returns-then-not-assigns : goal.returns-then-not-assigns
+returns-then-not-assigns g c =
+    let r = c.in_ok-parts.ensures in
+    target_refuses c.args.depth c.args.cursor.now c.selected.new.cursor (selected_view c.in_ok-parts.parts) (open_operand c.joined-operand.result) r.0 c.joined-operand.ensures (sym c.if-not-assigns.ensures)
+
+pub returns : goal.returns
+returns g c =
+    let r = c.in_ok-parts.ensures in
+    let d = c.args.depth in
+    let x = selected_view c.in_ok-parts.parts in
+    let y = open_operand c.joined-operand.result in (
+      target_gives d c.args.cursor.now c.selected.new.cursor x y r.0 c.joined-operand.ensures (sym c.if-not-assigns.ensures),
+      joined_high x y c.in_ok-parts.tall c.joined-operand.ensures r.1,
+      low_target y.0 c.in_ok-parts.tall d (sym c.if-not-assigns.ensures) (joined_low x y c.in_ok-parts.tall d c.joined-operand.ensures r.2),
+    )
