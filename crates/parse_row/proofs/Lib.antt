@@ -1,0 +1,5 @@
+pub mod Behind
+pub mod Passing
+pub mod Signs
+pub mod Steps
+pub mod Tails
