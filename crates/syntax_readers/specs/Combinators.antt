@@ -1,5 +1,5 @@
 -- Ways of making readers that the productions share, beside those of grammar_laws.
-use Rattle.std.specs.Prelude.{ℕ, zero, suc, ◌+◌, ◌-◌, Bool, ◌&&◌, if◌then◌else◌, List, [], ◌∷◌, ◌++◌, length, take, drop, Option, Some, None, Ok, Err}
+use Rattle.std.specs.Prelude.{ℕ, zero, suc, ◌+◌, ◌-◌, Bool, ◌&&◌, if◌then◌else◌, List, [], ◌∷◌, length, take, drop, Option, Some, None, Ok, Err}
 use Rattle.dart_base.specs.declared.place.Place.{Place}
 use Rattle.dart_token.specs.declared.token.Token.{Token}
 use Rattle.dart_token.specs.declared.sign.Sign.TheVariants as s
@@ -106,14 +106,14 @@ abbrev pub behind_brackets : List Token → List Token
 behind_brackets [] = []
 behind_brackets (t ∷ ts) = behind_open 1 ts
 
--- this many tokens read as if no others came, and all of them
-abbrev pub ended_at : {A : Type 0} → List Token → Outcome Token A → Outcome Token A
-ended_at behind (Ok (a, [])) = Ok (a, behind)
-ended_at behind (Ok (a, (t ∷ more))) = Err (t ∷ more ++ behind)
-ended_at behind (Err rest) = Err (rest ++ behind)
+-- this many tokens read as if no others came, and all of them; a fault stands where as many of them are left
+abbrev pub ended_at : {A : Type 0} → ℕ → List Token → Outcome Token A → Outcome Token A
+ended_at n ts (Ok (a, [])) = Ok (a, drop n ts)
+ended_at n ts (Ok (a, (t ∷ more))) = Err (drop (n - length (t ∷ more)) ts)
+ended_at n ts (Err rest) = Err (drop (n - length rest) ts)
 
 abbrev pub up_to : {A : Type 0} → ℕ → Reader Token A → Reader Token A
-up_to n p ts = ended_at (drop n ts) (p (take n ts))
+up_to n p ts = ended_at n ts (p (take n ts))
 
 -- ---- what may end in an operand is read with the half of a `> >` or `> >=` that stands behind it,
 -- or none

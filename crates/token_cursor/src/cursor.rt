@@ -134,9 +134,9 @@ impl<'a> Cursor<'a> {
         }
     }
 
-    // A cursor behind so many tokens, or at the end.
+    /// A cursor behind so many tokens, or at the end.
     #[tactic(auto, using(crate::proofs::Skipping::skips_enough))]
-    fn behind(&self, count: usize) -> Cursor<'a>
+    pub fn behind(&self, count: usize) -> Cursor<'a>
         ensures { result ≡ drop count self.now }
     {
         let count = count.min(self.rest.len());
