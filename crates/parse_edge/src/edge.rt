@@ -1,5 +1,5 @@
 // Whether a tree takes what comes next, itself or at its right edge.
-ghost use Rattle.std.specs.Prelude.{◌≡◌, ◌≤◌, ◌+◌, ◌||◌, ◌&&◌, not, ◌∷◌, []};
+ghost use Rattle.std.specs.Prelude.{◌≡◌, ◌≤◌, ◌+◌, ◌||◌, ◌&&◌, ◌∷◌, []};
 ghost use Rattle.dart_tree.specs.Tree as t;
 ghost use Rattle.dart_syntax.specs.Edges as spec;
 ghost use Rattle.dart_tree.specs.Lists.{tails_of, cascades_of, selectors_of};

@@ -1,5 +1,5 @@
 -- A list that a loop reads turn by turn, by what is still to be read behind what the turns before have read.
-use Rattle.std.proofs.Common.{◌≡◌, ℕ, suc, ◌+◌, ◌-◌, ◌<◌, ◌≤◌, max, Bool, true, false, List, [], ◌∷◌, ◌++◌, Ok, Err, length, refl, sym, ap, ◌∙◌, arith}
+use Rattle.std.proofs.Common.{◌≡◌, ℕ, suc, ◌+◌, ◌-◌, ◌<◌, ◌≤◌, max, Bool, true, false, List, [], ◌∷◌, ◌++◌, Ok, Err, refl, sym, ap, ◌∙◌, arith}
 use Rattle.dart_token.specs.declared.token.Token.{Token}
 use Rattle.grammar_laws.specs.Readers.{Reader, Outcome, mapped, prepend, cons_to, many_turns, starts}
 use Rattle.grammar_laws.proofs.Cuts.{gave}

@@ -1,5 +1,5 @@
 -- `catch` and its names, by the number of nodes above one another.
-use Rattle.std.proofs.Common.{◌≡◌, ℕ, zero, suc, ◌-◌, ◌<◌, List, Err, refl, sym, subst, arith}
+use Rattle.std.proofs.Common.{◌≡◌, ℕ, suc, ◌-◌, ◌<◌, List, Err, refl, sym, subst, arith}
 use Rattle.dart_token.specs.declared.token.Token.{Token}
 use Rattle.syntax_readers.specs.Statements.{stage, nodes_over, catch_over}
 use Rattle.parse_jump.specs.Views.{catch_at}

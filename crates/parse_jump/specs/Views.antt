@@ -17,13 +17,9 @@ use Rattle.grammar_laws.specs.Readers.{Reader, option}
 use Rattle.parse_nest.specs.Stages.{closed_at}
 use Rattle.syntax_readers.specs.Combinators.{◌~◌, made₂, made₃}
 use Rattle.syntax_readers.specs.Primaries.{maybe_expr}
-use Rattle.syntax_readers.specs.Statements.{StmtReaders, stage, stmt_comes, stmt_in_part_comes}
+use Rattle.syntax_readers.specs.Statements.{stage, stmt_comes, stmt_in_part_comes}
 use Rattle.token_codes.specs.Codes.{class_of, names, word_code}
 use Rattle.token_codes.specs.Leaves.{sign, word, identifier}
-
--- the readers of the nodes that statements are made of, with at most so many nodes above one another
-abbrev pub nodes_at : ℕ → StmtReaders
-nodes_at n = (stage n).nodes
 
 -- ---- what comes
 

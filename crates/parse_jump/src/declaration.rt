@@ -4,11 +4,11 @@ ghost use Rattle.dart_tree.specs.Depth as height;
 ghost use Rattle.dart_tree.specs.Tree as t;
 ghost use Rattle.dart_tree.specs.View as view;
 ghost use Rattle.grammar_laws.specs.Readers.{mapped, tried};
-ghost use Rattle.parse_jump.specs.Views.{nodes_at};
 ghost use Rattle.parse_nest.specs.Nests.{NestsExpr, NestsParameters, NestsBlock};
 ghost use Rattle.parse_parameter.specs.Views.{variables_at, local_function_at};
 ghost use Rattle.syntax_readers.specs.Statements as spec;
 ghost use Rattle.token_cursor.specs.Gives.{GivesHigh};
+ghost use Rattle.parse_nest.specs.Stages.{nodes_at};
 
 use crate::look::sees_variables;
 use dart_tree::expression::Expr;

@@ -1,11 +1,10 @@
 -- The reader of list and map literals over those of one node less, by a number that the code counts down from.
 use Rattle.std.proofs.Common.{◌≡◌, ℕ, zero, suc, ◌-◌, ◌<◌, Err, List, refl, sym, subst, arith}
 use Rattle.dart_token.specs.declared.token.Token.{Token}
-use Rattle.parse_nest.specs.Stages.{closed_at}
+use Rattle.parse_nest.specs.Stages.{closed_at, exprs_at}
 use Rattle.syntax_readers.specs.Types.{type_reader}
 use Rattle.syntax_readers.specs.Primaries.{collection_over}
 use Rattle.syntax_readers.specs.Statements.{stage, nodes_over}
-use Rattle.parse_literal.specs.Views.{exprs_at}
 
 pub collection_none : (ts : List Token) → (exprs_at 0).collection ts ≡ Err ts
 unfolding stage

@@ -21,8 +21,7 @@ use Rattle.token_codes.specs.Leaves.{head, piece, sign}
 use Rattle.token_cursor.specs.declared.cursor.HeadText.{HeadText}
 use Rattle.token_cursor.specs.declared.cursor.PieceText.{PieceText}
 use Rattle.token_cursor.specs.Views.{head_of, text_of}
-use Rattle.syntax_readers.specs.Primaries.{ExprReaders, expr_first, entry, to_list, to_map}
-use Rattle.syntax_readers.specs.Statements.{stage}
+use Rattle.syntax_readers.specs.Primaries.{expr_first, entry, to_list, to_map}
 
 -- what begins an operand that a bracket or an operator begins
 abbrev pub bracket_first : List ℕ
@@ -30,10 +29,6 @@ bracket_first = sign_code s.LeftParenthesis ∷ sign_code s.LeftBracket ∷ sign
 
 abbrev pub prefix_first : List ℕ
 prefix_first = sign_code s.Minus ∷ sign_code s.Tilde ∷ sign_code s.Bang ∷ sign_code s.PlusPlus ∷ sign_code s.MinusMinus ∷ []
-
--- the readers of the nodes that expressions are made of, with at most so many nodes above one another
-abbrev pub exprs_at : ℕ → ExprReaders
-exprs_at n = (stage n).nodes.exprs
 
 -- ---- strings
 

@@ -6,9 +6,9 @@ ghost use Rattle.grammar_laws.specs.Readers.{tried, farther};
 ghost use Rattle.syntax_readers.specs.Types.{type_reader};
 ghost use Rattle.token_cursor.specs.Gives.{GivesHigh};
 ghost use Rattle.parse_nest.specs.Nests.{NestsExpr};
-ghost use Rattle.parse_nest.specs.Stages.{closed_at};
+ghost use Rattle.parse_nest.specs.Stages.{closed_at, exprs_at};
 ghost use Rattle.syntax_readers.specs.Primaries as spec;
-ghost use Rattle.parse_literal.specs.Views.{exprs_at, items_and_comma, items_and_comma_height, entries_and_comma, entries_and_comma_height, some_items, some_entries, entry_of, entry_height};
+ghost use Rattle.parse_literal.specs.Views.{items_and_comma, items_and_comma_height, entries_and_comma, entries_and_comma_height, some_items, some_entries, entry_of, entry_height};
 
 use crate::look::{move_later, sees_expr};
 use dart_base::place::Place;

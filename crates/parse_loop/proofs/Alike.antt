@@ -1,5 +1,5 @@
 -- Lists whose items are all alike: what is read is the list of the items.
-use Rattle.std.proofs.Common.{◌≡◌, ℕ, max, List, [], ◌∷◌, ◌++◌, map, Ok, Err, refl, sym, ap, ◌∙◌, arith, Option}
+use Rattle.std.proofs.Common.{◌≡◌, ℕ, max, List, [], ◌∷◌, ◌++◌, map, Ok, Err, refl, ap, ◌∙◌, arith}
 use Rattle.std.proofs.lemmas.List.{map-append}
 use Rattle.dart_token.specs.declared.token.Token.{Token}
 use Rattle.dart_tree.specs.Depth.{highest}

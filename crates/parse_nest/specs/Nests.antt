@@ -7,13 +7,14 @@ use Rattle.dart_token.specs.declared.token.Token.{Token}
 use Rattle.dart_tree.specs.declared.expression.Expr.{Expr}
 use Rattle.dart_tree.specs.declared.parameter.Parameters.{Parameters}
 use Rattle.dart_tree.specs.declared.statement.Block.{Block}
+use Rattle.dart_tree.specs.declared.statement.Stmt.{Stmt}
 use Rattle.dart_tree.specs.Depth as height
 use Rattle.dart_tree.specs.Lists.{block_of}
 use Rattle.dart_tree.specs.View as view
 use Rattle.token_cursor.specs.declared.error.ReadFault.{ReadFault}
 use Rattle.token_cursor.specs.Gives.{GivesHigh}
 use Rattle.parse_nest.specs.Open.{open_expr, open_expr_height}
-use Rattle.parse_nest.specs.Stages.{expr_at, parameters_at, block_at}
+use Rattle.parse_nest.specs.Stages.{expr_at, parameters_at, block_at, stmt_at}
 
 -- it reads expressions, with cascades or without
 pub record NestsExpr (limit : ℕ) (pre : Global → MutBor (List Token) → ℕ → Bool → Type 0)
@@ -38,3 +39,11 @@ pub record NestsBlock (limit : ℕ) (pre : Global → MutBor (List Token) → �
   pub reads : (alloc : Global) (old new : MutBor (List Token)) (depth : ℕ) (result : Result (Block × ℕ) ReadFault) →
       post alloc old depth result new →
       GivesHigh block_of height.block_height depth (block_at depth old.now) result new.now
+
+-- it reads statements
+pub record NestsStmt (limit : ℕ) (pre : Global → MutBor (List Token) → ℕ → Type 0)
+    (post : Global → MutBor (List Token) → ℕ → Result (Stmt × ℕ) ReadFault → MutBor (List Token) → Type 0) : Type 0 where
+  pub callable : (alloc : Global) (old : MutBor (List Token)) (depth : ℕ) → depth ≤ limit → pre alloc old depth
+  pub reads : (alloc : Global) (old new : MutBor (List Token)) (depth : ℕ) (result : Result (Stmt × ℕ) ReadFault) →
+      post alloc old depth result new →
+      GivesHigh view.stmt height.stmt_height depth (stmt_at depth old.now) result new.now

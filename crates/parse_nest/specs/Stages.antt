@@ -5,7 +5,20 @@ use Rattle.dart_tree.specs.Tree as t
 use Rattle.grammar_laws.specs.Readers.{Reader}
 use Rattle.grammar_laws.specs.Halves.{strict}
 use Rattle.syntax_readers.specs.Combinators.{Open}
-use Rattle.syntax_readers.specs.Statements.{stage}
+use Rattle.syntax_readers.specs.Levels.{LevelReaders}
+use Rattle.syntax_readers.specs.Primaries.{ExprReaders}
+use Rattle.syntax_readers.specs.Statements.{StmtReaders, stage}
+
+-- the nodes that statements and declarations are made of, and those that expressions are made of
+abbrev pub nodes_at : ℕ → StmtReaders
+nodes_at n = (stage n).nodes
+
+abbrev pub exprs_at : ℕ → ExprReaders
+exprs_at n = (stage n).nodes.exprs
+
+-- the operands of these expressions
+abbrev pub levels_at : ℕ → LevelReaders
+levels_at n = (stage n).levels
 
 -- an expression, with cascades or without
 abbrev pub expr_at : ℕ → Bool → Reader Token (Open t.Expr)
@@ -21,3 +34,6 @@ parameters_at n = (stage n).nodes.exprs.parameters
 
 abbrev pub block_at : ℕ → Reader Token t.Block
 block_at n = (stage n).nodes.exprs.block
+
+abbrev pub stmt_at : ℕ → Reader Token t.Stmt
+stmt_at n = (stage n).stmt

@@ -15,7 +15,8 @@ use Rattle.grammar_laws.specs.Readers.{mapped, many, always}
 use Rattle.syntax_readers.specs.Parameters as spec
 use Rattle.token_codes.specs.Codes.{class_of, these}
 use Rattle.parse_loop.specs.Lists.{Growing}
-use Rattle.parse_parameter.specs.Views.{exprs_at, annotation_at, arguments_height}
+use Rattle.parse_parameter.specs.Views.{annotation_at, arguments_height}
+use Rattle.parse_nest.specs.Stages.{exprs_at}
 
 abbrev pub snoc : t.Metadata → t.Annotation → t.Metadata
 snoc t.no_metadata x = t.annotation x t.no_metadata

@@ -10,8 +10,8 @@ use Rattle.syntax_readers.specs.Statements.{stage, nodes_over}
 use Rattle.syntax_readers.specs.Types.{type_reader}
 use Rattle.token_cursor.specs.declared.error.ReadFault.{ReadFault}
 use Rattle.token_cursor.specs.Gives.{GivesHigh}
-use Rattle.parse_nest.specs.Stages.{closed_at, parameters_at}
-use Rattle.parse_parameter.specs.Views.{exprs_at, parameter_at, variables_at, local_parts, local_function_at}
+use Rattle.parse_nest.specs.Stages.{closed_at, parameters_at, exprs_at}
+use Rattle.parse_parameter.specs.Views.{parameter_at, variables_at, local_parts, local_function_at}
 
 pub type_at : (n : ℕ) → (exprs_at n).type ≡ type_reader n
 unfolding stage nodes_over type_reader

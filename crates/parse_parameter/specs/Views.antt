@@ -33,10 +33,7 @@ use Rattle.parse_parameter.specs.declared.list.Optional.{Optional}
 use Rattle.parse_parameter.specs.declared.parameter.BeforeName.{BeforeName}
 use Rattle.parse_parameter.specs.declared.parameter.BeforeName.TheVariants as bn
 use Rattle.parse_parameter.specs.declared.parameter.ParameterHead.{ParameterHead}
-
--- the readers of the nodes that expressions are made of, with at most so many nodes above one another
-abbrev pub exprs_at : ℕ → ExprReaders
-exprs_at n = (stage n).nodes.exprs
+use Rattle.parse_nest.specs.Stages.{exprs_at}
 
 -- ---- variables and functions
 

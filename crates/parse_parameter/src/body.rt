@@ -3,8 +3,7 @@ ghost use Rattle.std.specs.Prelude.{◌≤◌};
 ghost use Rattle.dart_tree.specs.Depth as height;
 ghost use Rattle.dart_tree.specs.View as view;
 ghost use Rattle.parse_nest.specs.Nests.{NestsExpr, NestsBlock};
-ghost use Rattle.parse_nest.specs.Stages.{closed_at};
-ghost use Rattle.parse_parameter.specs.Views.{exprs_at};
+ghost use Rattle.parse_nest.specs.Stages.{closed_at, exprs_at};
 ghost use Rattle.syntax_readers.specs.Parameters as spec;
 ghost use Rattle.token_cursor.specs.Gives.{GivesHigh};
 

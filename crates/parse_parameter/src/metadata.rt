@@ -6,10 +6,11 @@ ghost use Rattle.dart_tree.specs.Depth as height;
 ghost use Rattle.dart_tree.specs.View as view;
 ghost use Rattle.grammar_laws.specs.Readers.{option};
 ghost use Rattle.parse_nest.specs.Nests.{NestsExpr, NestsParameters};
-ghost use Rattle.parse_parameter.specs.Views.{exprs_at, parameter_at, bare_of, node_height, metadata_of, arguments_of, annotation_at, arguments_height};
+ghost use Rattle.parse_parameter.specs.Views.{parameter_at, bare_of, node_height, metadata_of, arguments_of, annotation_at, arguments_height};
 ghost use Rattle.syntax_readers.specs.Parameters as spec;
 ghost use Rattle.token_codes.specs.Codes.{class_of, these};
 ghost use Rattle.token_cursor.specs.Gives.{GivesHigh};
+ghost use Rattle.parse_nest.specs.Stages.{exprs_at};
 
 use crate::parameter::parameter_kind;
 use dart_base::place::Place;

@@ -13,8 +13,8 @@ use Rattle.token_cursor.specs.declared.error.ReadFault.TheVariants.{Stuck, Memor
 use Rattle.token_cursor.specs.Gives.{GivesHigh}
 use Rattle.syntax_readers.specs.Combinators.{Open, shut}
 use Rattle.syntax_readers.specs.Primaries.{primary, super, string_first}
-use Rattle.parse_literal.specs.Views.{exprs_at}
 use Rattle.parse_primary.specs.Views.{open_primary, open_primary_height, an_atom, a_super, a_text, other_primary, GivesBare, GivesPrimary}
+use Rattle.parse_nest.specs.Stages.{exprs_at}
 
 abbrev OpenRead : Type 0
 OpenRead = Result ((Primary × Option Place) × ℕ) ReadFault

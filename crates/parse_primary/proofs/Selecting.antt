@@ -22,8 +22,8 @@ use Rattle.token_cursor.specs.declared.error.ReadFault.TheVariants.{Stuck, Memor
 use Rattle.token_cursor.specs.Gives.{Gives, GivesHigh}
 use Rattle.syntax_readers.specs.Primaries.{ExprReaders, selector_first, member, selector, selectors, section_over}
 use Rattle.parse_loop.specs.Lists.{Growing}
-use Rattle.parse_literal.specs.Views.{exprs_at}
 use Rattle.parse_primary.specs.Views.{view_selectors, selectors_high, selectors_behind, section_start, view_section}
+use Rattle.parse_nest.specs.Stages.{exprs_at}
 
 abbrev pub snoc_selector : List t.Selector → t.Selector → List t.Selector
 snoc_selector l x = l ++ x ∷ []

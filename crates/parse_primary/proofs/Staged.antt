@@ -1,11 +1,10 @@
 -- The readers of nodes over those of one node less.
 use Rattle.std.proofs.Common.{◌≡◌, ℕ, zero, suc, ◌-◌, ◌<◌, Err, List, refl, sym, subst, ◌∙◌, arith}
 use Rattle.dart_token.specs.declared.token.Token.{Token}
-use Rattle.parse_nest.specs.Stages.{closed_at}
+use Rattle.parse_nest.specs.Stages.{closed_at, exprs_at}
 use Rattle.syntax_readers.specs.Types.{type_reader}
 use Rattle.syntax_readers.specs.Primaries.{arguments_over, function_literal_over}
 use Rattle.syntax_readers.specs.Statements.{stage, nodes_over}
-use Rattle.parse_literal.specs.Views.{exprs_at}
 use Rattle.parse_primary.specs.Views.{arguments_of}
 use Rattle.parse_primary.proofs.Labelling.{arguments_are}
 

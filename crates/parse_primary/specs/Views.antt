@@ -25,8 +25,7 @@ use Rattle.syntax_readers.specs.Combinators.{◌~◌, made₂, made₃, Open, wi
 use Rattle.syntax_readers.specs.Primaries as p
 use Rattle.syntax_readers.specs.Primaries.{Argument, to_arguments, argument_list, expr_first, selector_first, selector, index, strings, object, parenthesized, parenthesis}
 use Rattle.parse_nest.specs.Open.{opened, open_height}
-use Rattle.parse_nest.specs.Stages.{closed_at}
-use Rattle.parse_literal.specs.Views.{exprs_at}
+use Rattle.parse_nest.specs.Stages.{closed_at, exprs_at}
 
 -- ---- arguments
 

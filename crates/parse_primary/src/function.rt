@@ -4,8 +4,7 @@ ghost use Rattle.dart_tree.specs.Tree as t;
 ghost use Rattle.dart_tree.specs.View as view;
 ghost use Rattle.token_cursor.specs.Gives.{GivesHigh};
 ghost use Rattle.parse_nest.specs.Nests.{NestsExpr, NestsParameters, NestsBlock};
-ghost use Rattle.parse_nest.specs.Stages.{expr_at, block_at};
-ghost use Rattle.parse_literal.specs.Views.{exprs_at};
+ghost use Rattle.parse_nest.specs.Stages.{expr_at, block_at, exprs_at};
 ghost use Rattle.syntax_readers.specs.Primaries as spec;
 ghost use Rattle.parse_primary.specs.Views.{open_body, open_body_height, open_primary, open_primary_height, arrow_body, braced_body};
 

@@ -3,9 +3,9 @@ ghost use Rattle.std.specs.Prelude.{◌≤◌, Err};
 ghost use Rattle.grammar_laws.specs.Readers.{tried, sought, farther, deeper};
 ghost use Rattle.token_cursor.specs.Gives.{GivesHigh};
 ghost use Rattle.parse_nest.specs.Nests.{NestsExpr, NestsParameters, NestsBlock};
-ghost use Rattle.parse_literal.specs.Views.{exprs_at};
 ghost use Rattle.syntax_readers.specs.Primaries as spec;
 ghost use Rattle.parse_primary.specs.Views.{open_primary, open_primary_height, closed_parenthesis};
+ghost use Rattle.parse_nest.specs.Stages.{exprs_at};
 
 use crate::function::function;
 use crate::open::OpenPrimary;

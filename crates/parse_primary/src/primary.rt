@@ -5,10 +5,10 @@ ghost use Rattle.dart_tree.specs.Tree as t;
 ghost use Rattle.dart_tree.specs.View as view;
 ghost use Rattle.token_cursor.specs.Gives.{GivesHigh};
 ghost use Rattle.parse_nest.specs.Nests.{NestsExpr, NestsParameters, NestsBlock};
-ghost use Rattle.parse_literal.specs.Views.{exprs_at};
 ghost use Rattle.syntax_readers.specs.Combinators.{shut};
 ghost use Rattle.syntax_readers.specs.Primaries as spec;
 ghost use Rattle.parse_primary.specs.Views.{open_primary, open_primary_height, an_atom, a_super, a_text, an_object, a_collection, other_primary, GivesPrimary, GivesBare};
+ghost use Rattle.parse_nest.specs.Stages.{exprs_at};
 
 use crate::arguments::arguments;
 use crate::open::OpenPrimary;

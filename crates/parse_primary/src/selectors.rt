@@ -6,9 +6,9 @@ ghost use Rattle.dart_tree.specs.View as view;
 ghost use Rattle.grammar_laws.specs.Readers.{mapped};
 ghost use Rattle.token_cursor.specs.Gives.{GivesHigh};
 ghost use Rattle.parse_nest.specs.Nests.{NestsExpr};
-ghost use Rattle.parse_literal.specs.Views.{exprs_at};
 ghost use Rattle.syntax_readers.specs.Primaries as spec;
 ghost use Rattle.parse_primary.specs.Views.{view_selectors, selectors_high, selectors_behind, section_start, view_section, bare_member};
+ghost use Rattle.parse_nest.specs.Stages.{exprs_at};
 
 use crate::arguments::arguments;
 use dart_token::sign::Sign;

@@ -1,5 +1,5 @@
 -- Operands outcome by outcome, at a depth that the code counts down from.
-use Rattle.std.proofs.Common.{◌≡◌, ℕ, zero, suc, ◌+◌, ◌-◌, ◌<◌, ◌≤◌, max, map, Bool, true, false, ◌&&◌, List, [], ◌∷◌, Option, Some, None, Ok, Err, refl, sym, ap, subst, ◌∙◌, arith}
+use Rattle.std.proofs.Common.{◌≡◌, ℕ, zero, suc, ◌+◌, ◌-◌, ◌<◌, ◌≤◌, max, map, true, false, ◌&&◌, List, [], ◌∷◌, Option, Some, None, Ok, Err, refl, sym, ap, subst, ◌∙◌, arith}
 use Rattle.std.specs.Global.{Vec}
 use Rattle.dart_base.specs.declared.place.Place.{Place}
 use Rattle.dart_token.specs.declared.token.Token.{Token}
@@ -12,7 +12,7 @@ use Rattle.dart_tree.specs.Tree as t
 use Rattle.dart_tree.specs.View as view
 use Rattle.dart_syntax.specs.Expressions.{to_selectors, primary_assigns}
 use Rattle.grammar_laws.specs.Depth.{is_below}
-use Rattle.grammar_laws.specs.Readers.{Reader, Outcome, starts}
+use Rattle.grammar_laws.specs.Readers.{Outcome, starts}
 use Rattle.grammar_laws.proofs.Codes.{and_both}
 use Rattle.grammar_laws.proofs.Cuts.{gave}
 use Rattle.grammar_laws.proofs.Depth.{below_is}
@@ -25,7 +25,7 @@ use Rattle.syntax_readers.specs.Combinators.{Open, with_half}
 use Rattle.syntax_readers.specs.Levels.{selects, selected, target, whole, assigns, is_bare, steps_behind, step_signs, stepped, postfix, unary, levels_over, flat_levels, rows_over}
 use Rattle.syntax_readers.specs.Primaries.{primary, selectors}
 use Rattle.syntax_readers.specs.Statements.{stage}
-use Rattle.parse_primary.specs.Views.{GivesPrimary, bare_room}
+use Rattle.parse_primary.specs.Views.{GivesPrimary}
 use Rattle.parse_unary.specs.Views.{row_reader, target_reader, selected_reader, operand_room, selected_view, selected_height, GivesSelected}
 
 -- ---- the readers over those of one node less

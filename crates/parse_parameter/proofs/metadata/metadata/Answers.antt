@@ -6,9 +6,10 @@ use Rattle.dart_tree.specs.View as view
 use Rattle.token_cursor.proofs.Passing.{passes}
 use Rattle.syntax_readers.specs.Parameters.{metadata}
 use Rattle.parse_loop.proofs.Plain.{begins, stops, over, fails, goes_on}
-use Rattle.parse_parameter.specs.Views.{exprs_at, metadata_of, annotation_at}
+use Rattle.parse_parameter.specs.Views.{metadata_of, annotation_at}
 use Rattle.parse_parameter.proofs.Annotations.{annotations, metadata_is, none_high, pushed}
 use Rattle.parse_parameter.proofs.metadata.metadata.Goals as goal
+use Rattle.parse_nest.specs.Stages.{exprs_at}
 
 pub loop-turn-init : goal.loop-turn-init
 loop-turn-init g c =

@@ -1,8 +1,9 @@
 use Rattle.std.proofs.Common.{◌-◌, arith}
 use Rattle.syntax_readers.specs.Parameters.{parameter_over}
-use Rattle.parse_parameter.specs.Views.{exprs_at, parameter_at, bare_of, node_height}
+use Rattle.parse_parameter.specs.Views.{parameter_at, bare_of, node_height}
 use Rattle.parse_parameter.proofs.Stages.{one_more, parameter_never, parameter_is}
 use Rattle.parse_parameter.proofs.metadata.parameter.Goals as goal
+use Rattle.parse_nest.specs.Stages.{exprs_at}
 
 pub returns-then-depth-eq0 : goal.returns-then-depth-eq0
 returns-then-depth-eq0 g c = parameter_never c.args.depth c.args.cursor.now (omega (arith, c.if-depth-eq0.true))

@@ -4,9 +4,10 @@ use Rattle.dart_tree.specs.View as view
 use Rattle.std.proofs.Common.{None}
 use Rattle.syntax_readers.specs.Combinators.{always_gives}
 use Rattle.syntax_readers.specs.Parameters.{function_over, whole_body}
-use Rattle.parse_parameter.specs.Views.{exprs_at, local_function_at}
+use Rattle.parse_parameter.specs.Views.{local_function_at}
 use Rattle.parse_parameter.proofs.Stages.{one_more, function_never, function_is}
 use Rattle.parse_parameter.proofs.variable.local_function.Goals as goal
+use Rattle.parse_nest.specs.Stages.{exprs_at}
 
 pub returns-then-depth-eq0 : goal.returns-then-depth-eq0
 returns-then-depth-eq0 g c = function_never c.args.depth c.args.cursor.now (omega (arith, c.if-depth-eq0.true))

@@ -5,9 +5,9 @@ use Rattle.dart_tree.specs.Tree as tree
 use Rattle.dart_tree.specs.View as view
 use Rattle.grammar_laws.specs.Readers.{Outcome}
 use Rattle.token_cursor.specs.Gives.{GivesHigh}
-use Rattle.parse_literal.specs.Views.{exprs_at}
 use Rattle.parse_primary.proofs.Staged.{arguments_never, arguments_at}
 use Rattle.parse_primary.proofs.arguments.arguments.Goals as goal
+use Rattle.parse_nest.specs.Stages.{exprs_at}
 
 pub returns-then-depth-eq0 : goal.returns-then-depth-eq0
 returns-then-depth-eq0 g c = arguments_never c.args.depth c.args.cursor.now (omega (arith, c.if-depth-eq0.true))

@@ -4,10 +4,10 @@ use Rattle.dart_tree.specs.Tree as tree
 use Rattle.grammar_laws.specs.Readers.{Outcome}
 use Rattle.token_cursor.specs.Gives.{GivesHigh}
 use Rattle.syntax_readers.specs.Combinators.{Open}
-use Rattle.parse_literal.specs.Views.{exprs_at}
 use Rattle.parse_primary.specs.Views.{open_primary, open_primary_height}
 use Rattle.parse_primary.proofs.Staged.{function_never, function_at}
 use Rattle.parse_primary.proofs.function.function.Goals as goal
+use Rattle.parse_nest.specs.Stages.{exprs_at}
 
 pub returns-then-depth-eq0 : goal.returns-then-depth-eq0
 returns-then-depth-eq0 g c = function_never c.args.depth c.args.cursor.now (omega (arith, c.if-depth-eq0.true))

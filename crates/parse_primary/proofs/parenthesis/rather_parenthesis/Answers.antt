@@ -1,7 +1,7 @@
-use Rattle.parse_literal.specs.Views.{exprs_at}
 use Rattle.parse_primary.specs.Views.{open_primary, open_primary_height, closed_parenthesis}
 use Rattle.parse_primary.proofs.Trying.{tried_first, tried_second}
 use Rattle.parse_primary.proofs.parenthesis.rather_parenthesis.Goals as goal
+use Rattle.parse_nest.specs.Stages.{exprs_at}
 
 pub returns-in-Ok : goal.returns-in-Ok
 returns-in-Ok g c =

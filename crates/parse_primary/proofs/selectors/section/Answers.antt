@@ -8,10 +8,10 @@ use Rattle.grammar_laws.specs.Readers.{Outcome}
 use Rattle.token_cursor.specs.Gives.{GivesHigh}
 use Rattle.token_cursor.proofs.Passing.{passes}
 use Rattle.syntax_readers.specs.Primaries.{section_over}
-use Rattle.parse_literal.specs.Views.{exprs_at}
 use Rattle.parse_primary.specs.Views.{selectors_behind, section_start, view_section}
 use Rattle.parse_primary.proofs.Selecting.{section_is, section_fails, section_gives}
 use Rattle.parse_primary.proofs.selectors.section.Goals as goal
+use Rattle.parse_nest.specs.Stages.{exprs_at}
 
 pub returns-in_err-first : goal.returns-in_err-first
 returns-in_err-first g c =

@@ -5,10 +5,10 @@ use Rattle.dart_tree.specs.View as view
 use Rattle.token_cursor.proofs.Passing.{passes}
 use Rattle.syntax_readers.specs.Primaries.{selector}
 use Rattle.parse_loop.proofs.Plain.{begins, stops, over, fails, goes_on}
-use Rattle.parse_literal.specs.Views.{exprs_at}
 use Rattle.parse_primary.specs.Views.{view_selectors, selectors_high, selectors_behind}
 use Rattle.parse_primary.proofs.Selecting.{selectors_list, one_selector_height, selectors_pushed}
 use Rattle.parse_primary.proofs.selectors.selectors_behind.Goals as goal
+use Rattle.parse_nest.specs.Stages.{exprs_at}
 
 pub loop-turn-init : goal.loop-turn-init
 loop-turn-init g c =

@@ -3,7 +3,6 @@ use Rattle.std.proofs.lemmas.Result.{err_from_is_err_and}
 use Rattle.dart_tree.specs.Tree as tree
 use Rattle.dart_tree.specs.View as view
 use Rattle.grammar_laws.proofs.Cuts.{gave}
-use Rattle.syntax_readers.specs.Combinators.{Open}
 use Rattle.syntax_readers.specs.Primaries.{primary, selectors}
 use Rattle.syntax_readers.specs.Statements.{stage}
 use Rattle.parse_primary.specs.Views.{view_selectors, selectors_high}
