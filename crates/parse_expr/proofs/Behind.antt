@@ -1,5 +1,5 @@
 -- An expression, by its first operand and what stands behind it.
-use Rattle.std.proofs.Common.{◌≡◌, ℕ, suc, ◌+◌, max, Bool, true, false, not, ◌&&◌, ◌||◌, if◌then◌else◌, List, [], ◌∷◌, ◌++◌, Option, Some, None, Ok, Err, refl, sym, ap, ap₂, subst, ◌∙◌, arith}
+use Rattle.std.proofs.Common.{◌≡◌, ℕ, suc, ◌+◌, max, Bool, true, false, ◌&&◌, ◌||◌, if◌then◌else◌, List, [], ◌∷◌, ◌++◌, Option, Some, None, Ok, Err, refl, sym, ap, ap₂, subst, ◌∙◌, arith}
 use Rattle.dart_base.specs.declared.place.Place.{Place}
 use Rattle.dart_token.specs.declared.sign.Sign.TheVariants as s
 use Rattle.dart_token.specs.declared.word.Word.TheVariants as w
@@ -9,19 +9,19 @@ use Rattle.dart_tree.specs.Depth as height
 use Rattle.dart_tree.specs.Lists.{cascades_of}
 use Rattle.dart_tree.specs.Tree as t
 use Rattle.dart_syntax.specs.Edges.{dots, leaves}
-use Rattle.grammar_laws.specs.Codes.{has, given, disjoint}
+use Rattle.grammar_laws.specs.Codes.{given}
 use Rattle.grammar_laws.specs.Halves.{no_half}
-use Rattle.grammar_laws.specs.Readers.{Reader, Outcome, and_then, mapped, starts, when, by_first, continued_by, never, always}
+use Rattle.grammar_laws.specs.Readers.{Reader, Outcome, and_then, mapped, starts, when}
 use Rattle.grammar_laws.proofs.Codes.{not_true, and_both, clash, apart}
 use Rattle.token_codes.specs.Codes.{class_of, these, this_word}
 use Rattle.parse_type.proofs.Looking.{starts_either}
-use Rattle.parse_nest.specs.Stages.{expr_at}
+use Rattle.parse_nest.specs.Stages.{expr_at, exprs_at, levels_at}
 use Rattle.syntax_readers.specs.Combinators.{Open, with_half}
 use Rattle.syntax_readers.specs.Expressions as e
 use Rattle.syntax_readers.specs.Expressions.{assign_codes, assignment, assigned, cascaded, an_expr, assigned_or_cascaded, cascade_codes, cascades, to_cascades, expr_over, without_over, cascaded_over, opened, throw}
 use Rattle.syntax_readers.specs.Levels.{assigns}
 use Rattle.syntax_readers.specs.Statements.{stage, nodes_over}
-use Rattle.parse_expr.specs.Views.{exprs_at, levels_at, sees_cascades, sees_value, cascades_behind, value_behind, behind, operand_first, cascades_reader}
+use Rattle.parse_expr.specs.Views.{sees_cascades, sees_value, cascades_behind, value_behind, behind, operand_first, cascades_reader}
 
 -- ---- tests
 

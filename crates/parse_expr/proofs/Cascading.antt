@@ -6,14 +6,11 @@ use Rattle.dart_token.specs.declared.sign.Sign.TheVariants as s
 use Rattle.dart_token.specs.declared.token.Token.{Token}
 use Rattle.dart_tree.specs.declared.expression.Cascade.{Cascade}
 use Rattle.dart_tree.specs.Depth as height
-use Rattle.dart_tree.specs.Lists.{cascades_of, selectors_of}
+use Rattle.dart_tree.specs.Lists.{cascades_of}
 use Rattle.dart_tree.specs.Tree as t
-use Rattle.dart_tree.specs.View as view
-use Rattle.dart_syntax.specs.Edges.{leaves_cascade}
 use Rattle.dart_syntax.specs.Expressions.{selectors_assign}
 use Rattle.grammar_laws.specs.Codes.{is_empty, given}
-use Rattle.grammar_laws.specs.Halves.{no_half}
-use Rattle.grammar_laws.specs.Readers.{Reader, Outcome, and_then, mapped, starts, when, prepend, many_turns}
+use Rattle.grammar_laws.specs.Readers.{Reader, Outcome, and_then, starts, when, prepend, many_turns}
 use Rattle.grammar_laws.proofs.Cuts.{gave}
 use Rattle.grammar_laws.proofs.Turns.{many_over, many_stops, many_fails, many_more, many_last}
 use Rattle.token_codes.specs.Codes.{class_of, these}
@@ -22,7 +19,8 @@ use Rattle.syntax_readers.specs.Combinators.{Open}
 use Rattle.syntax_readers.specs.Expressions as e
 use Rattle.syntax_readers.specs.Expressions.{to_cascades, cascades, cascade_over}
 use Rattle.syntax_readers.specs.Statements.{stage, nodes_over}
-use Rattle.parse_expr.specs.Views.{exprs_at, cascade_of, cascade_height, cascades_reader, section_reader, value_reader, a_value, closed_cascade, goes_on_behind, CascadesSoFar}
+use Rattle.parse_expr.specs.Views.{cascade_of, cascade_height, cascades_reader, section_reader, value_reader, a_value, closed_cascade, goes_on_behind, CascadesSoFar}
+use Rattle.parse_nest.specs.Stages.{exprs_at}
 
 -- ---- the trees
 

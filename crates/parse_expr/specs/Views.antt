@@ -1,5 +1,5 @@
 -- What contracts see of the parts of expressions and cascades, and the readers of these parts.
-use Rattle.std.specs.Prelude.{◌≡◌, ◌≤◌, map, ℕ, suc, max, Bool, true, false, ◌&&◌, if◌then◌else◌, List, [], ◌∷◌, ◌++◌, Option, None, Some, Ok}
+use Rattle.std.specs.Prelude.{◌≡◌, ◌≤◌, map, ℕ, suc, max, Bool, false, ◌&&◌, if◌then◌else◌, List, [], ◌∷◌, ◌++◌, Option, None, Some, Ok}
 use Rattle.std.specs.Global.{Vec}
 use Rattle.dart_base.specs.declared.place.Place.{Place}
 use Rattle.dart_token.specs.declared.sign.Sign.TheVariants as s
@@ -20,29 +20,13 @@ use Rattle.grammar_laws.specs.Codes.{given}
 use Rattle.grammar_laws.specs.Halves.{no_half}
 use Rattle.grammar_laws.specs.Readers.{Reader, and_then, mapped, starts, when, prepend, many_turns}
 use Rattle.token_codes.specs.Codes.{class_of, these}
-use Rattle.token_codes.specs.Leaves.{sign}
 use Rattle.syntax_readers.specs.Combinators.{Open, with_half, halved, shut}
 use Rattle.syntax_readers.specs.Expressions as e
 use Rattle.syntax_readers.specs.Expressions.{Assigned, assign_codes, assignment, to_cascades}
-use Rattle.syntax_readers.specs.Levels.{LevelReaders, assigns}
-use Rattle.syntax_readers.specs.Primaries.{ExprReaders, section_over}
-use Rattle.syntax_readers.specs.Statements.{stage}
+use Rattle.syntax_readers.specs.Levels.{assigns}
+use Rattle.syntax_readers.specs.Primaries.{section_over}
 use Rattle.parse_nest.specs.Open.{open_expr}
-use Rattle.parse_nest.specs.Stages.{expr_at}
-
--- the readers of the nodes of expressions and of operands, with at most so many nodes above one another
-abbrev pub exprs_at : ℕ → ExprReaders
-exprs_at n = (stage n).nodes.exprs
-
-abbrev pub levels_at : ℕ → LevelReaders
-levels_at n = (stage n).levels
-
--- ---- the half of an operator behind what was read
-
--- it is read where none was, and where it may follow
-abbrev pub half_reader : Option Place → Bool → Reader Token (Option Place)
-half_reader (Some greater) may ts = Ok (Some greater, ts)
-half_reader None may ts = when (may && starts class_of (these s.Greater) ts) (sign s.Greater) ts
+use Rattle.parse_nest.specs.Stages.{expr_at, exprs_at, levels_at}
 
 -- ---- what is assigned
 

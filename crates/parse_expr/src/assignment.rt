@@ -34,7 +34,7 @@ pub const ASSIGNMENT_SIGNS: [Sign; 11] = [
     Sign::BarAssign,
 ];
 
-// Whether an operator that assigns comes, behind the half of one or none.
+/// Whether an operator that assigns comes, behind the half of one or none (ECMA-408, 16.19 Assignment).
 pub fn sees_assignment(cursor: &Cursor<'_>, half: Option<Place>) -> bool
     ensures { result ≡ starts class_of (spec.assign_codes half) cursor.now }
 {

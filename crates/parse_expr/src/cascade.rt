@@ -6,10 +6,10 @@ ghost use Rattle.token_codes.specs.Codes.{class_of};
 ghost use Rattle.token_cursor.specs.Gives.{GivesHigh};
 ghost use Rattle.syntax_readers.specs.Expressions as spec;
 ghost use Rattle.parse_nest.specs.Nests.{NestsExpr};
-ghost use Rattle.parse_expr.specs.Views.{exprs_at, section_reader, open_selectors, open_selectors_height, open_value, open_value_height, value_reader, open_cascade, open_cascade_height, open_cascades, open_cascades_height, cascades_reader, goes_on_behind};
+ghost use Rattle.parse_expr.specs.Views.{section_reader, open_selectors, open_selectors_height, open_value, open_value_height, value_reader, open_cascade, open_cascade_height, open_cascades, open_cascades_height, cascades_reader, goes_on_behind};
+ghost use Rattle.parse_nest.specs.Stages.{exprs_at};
 
 use crate::assignment::{assignment, sees_assignment};
-use crate::half::half_behind;
 use dart_base::place::Place;
 use dart_node::make::expression as make;
 use dart_token::sign::Sign;
@@ -19,6 +19,7 @@ use dart_tree::statement::Block;
 use parse_edge::edge::leaves_cascade;
 use parse_nest::inside::{Inside, OpenExpr};
 use parse_primary::selectors::section;
+use parse_row::operators::half_behind;
 use parse_unary::target::selectors_assign;
 use std::alloc::Global;
 use token_cursor::cursor::Cursor;
@@ -43,7 +44,7 @@ fn open_section<
 {
     let (selectors, height) = section(nest, cursor, depth)?;
     let may = selectors_assign(&selectors);
-    let half = half_behind(cursor, None, may);
+    let half = half_behind(cursor, may, None);
     Ok(((selectors, half), height))
 }
 

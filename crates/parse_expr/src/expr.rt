@@ -7,13 +7,12 @@ ghost use Rattle.token_cursor.specs.Gives.{GivesHigh};
 ghost use Rattle.syntax_readers.specs.Expressions as spec;
 ghost use Rattle.parse_nest.specs.Nests.{NestsExpr, NestsParameters, NestsBlock};
 ghost use Rattle.parse_nest.specs.Open.{open_expr, open_expr_height};
-ghost use Rattle.parse_nest.specs.Stages.{expr_at};
+ghost use Rattle.parse_nest.specs.Stages.{expr_at, exprs_at, levels_at};
 ghost use Rattle.parse_unary.specs.Views.{open_operand, open_operand_height};
-ghost use Rattle.parse_expr.specs.Views.{exprs_at, levels_at, sees_cascades, sees_value, cascades_behind, value_behind, behind, operand_first, open_cascaded, open_cascaded_height};
+ghost use Rattle.parse_expr.specs.Views.{sees_cascades, sees_value, cascades_behind, value_behind, behind, operand_first, open_cascaded, open_cascaded_height};
 
 use crate::assignment::{assignment, sees_assignment};
 use crate::cascade::cascades;
-use crate::half::half_behind;
 use dart_base::place::Place;
 use dart_node::make::expression as make;
 use dart_token::sign::Sign;
@@ -23,6 +22,7 @@ use dart_tree::parameter::Parameters;
 use dart_tree::statement::Block;
 use parse_edge::edge::{DOTS, leaves};
 use parse_nest::inside::{Inside, OpenExpr};
+use parse_row::operators::half_behind;
 use parse_row::rows::row;
 use parse_unary::target::assigns;
 use parse_unary::unary::OpenOperand;
@@ -54,7 +54,7 @@ fn opened<
 {
     let ((operand, half), height) = row(nest, cursor, depth, ROWS)?;
     let may = assigns(&operand);
-    let half = half_behind(cursor, half, may);
+    let half = half_behind(cursor, may, half);
     Ok(((operand, half), height))
 }
 

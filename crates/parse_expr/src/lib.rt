@@ -4,4 +4,3 @@
 pub mod assignment;
 pub mod cascade;
 pub mod expr;
-mod half;

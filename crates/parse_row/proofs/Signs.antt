@@ -1,19 +1,15 @@
 -- The signs of each row, and what tells that one of them comes.
-use Rattle.std.proofs.Common.{◌≡◌, ℕ, zero, suc, ◌+◌, ◌<◌, ◌≤◌, Bool, true, false, not, ◌&&◌, ◌||◌, List, [], ◌∷◌, ◌++◌, length, get_or, drop, Some, None, Ok, Err, refl, sym, ap, ap₂, ◌∙◌, inl, inr, arith}
+use Rattle.std.proofs.Common.{◌≡◌, ℕ, zero, suc, ◌+◌, ◌<◌, ◌≤◌, Bool, true, false, not, ◌&&◌, ◌||◌, List, [], ◌∷◌, ◌++◌, Some, None, refl, sym, ap, ap₂, ◌∙◌, inl, inr, arith}
 use Rattle.std.specs.Prelude.{◌==◌}
-use Rattle.std.proofs.lemmas.List.{drop_all}
 use Rattle.dart_base.specs.declared.place.Place.{Place}
-use Rattle.dart_token.specs.declared.sign.Sign.{Sign}
 use Rattle.dart_token.specs.declared.sign.Sign.TheVariants as s
 use Rattle.dart_token.specs.declared.token.Token.{Token}
 use Rattle.dart_token.specs.declared.word.Word.TheVariants as w
-use Rattle.dart_tree.specs.declared.operator.Operator.TheVariants as o
 use Rattle.dart_tree.specs.Tree.{Operand}
 use Rattle.dart_syntax.specs.Edges.{compares, leaves, leaves_less}
-use Rattle.grammar_laws.specs.Codes.{given, has}
+use Rattle.grammar_laws.specs.Codes.{given}
 use Rattle.grammar_laws.specs.Readers.{starts}
 use Rattle.token_codes.specs.Codes.{class_of, these, this_word, sign_codes}
-use Rattle.token_codes.specs.Leaves.{sign, signed, one_of}
 use Rattle.syntax_readers.specs.Combinators.{Open}
 use Rattle.syntax_readers.specs.Levels.{is_bare, compare_codes}
 use Rattle.syntax_readers.specs.Primaries.{operand_first}
@@ -85,54 +81,9 @@ repeats_is row = elim (cases_bool (row == 7)) [
   | inr off ↦ repeats_at row (λ e. clash (row == 7) (eq-eqb row 7 e) off) ∙ sym (ap not off)
 ]
 
--- ---- one of some signs
-
 pub starts_none : (ts : List Token) → starts class_of [] ts ≡ false
 starts_none [] = refl
 starts_none (t ∷ ts) = refl
-
-starts_next : (x : Sign) (xs : List Sign) (ts : List Token) → starts class_of (these x) ts ≡ false → starts class_of (sign_codes (x ∷ xs)) ts ≡ starts class_of (sign_codes xs) ts
-starts_next x xs ts off = starts_either (these x) (sign_codes xs) ts ∙ ap (λ (b : Bool). b || starts class_of (sign_codes xs) ts) off
-
-starts_now : (x : Sign) (xs : List Sign) (ts : List Token) → starts class_of (these x) ts ≡ true → starts class_of (sign_codes (x ∷ xs)) ts ≡ true
-starts_now x xs ts on = starts_either (these x) (sign_codes xs) ts ∙ ap (λ (b : Bool). b || starts class_of (sign_codes xs) ts) on
-
-pub sees_pass : (signs : List Sign) (i : ℕ) (d : Sign) (ts : List Token) → i < length signs → starts class_of (these (get_or signs i d)) ts ≡ false → starts class_of (sign_codes (drop i signs)) ts ≡ starts class_of (sign_codes (drop (suc i) signs)) ts
-sees_pass [] i d ts below off = absurd (omega arith)
-sees_pass (y ∷ ys) zero d ts below off = starts_next y ys ts off
-sees_pass (y ∷ ys) (suc i) d ts below off = sees_pass ys i d ts (omega arith) off
-
-pub sees_take : (signs : List Sign) (i : ℕ) (d : Sign) (ts : List Token) → i < length signs → starts class_of (these (get_or signs i d)) ts ≡ true → starts class_of (sign_codes (drop i signs)) ts ≡ true
-sees_take [] i d ts below on = absurd (omega arith)
-sees_take (y ∷ ys) zero d ts below on = starts_now y ys ts on
-sees_take (y ∷ ys) (suc i) d ts below on = sees_take ys i d ts (omega arith) on
-
-pub sees_over : (signs : List Sign) (i : ℕ) (ts : List Token) → length signs ≤ i → starts class_of (sign_codes (drop i signs)) ts ≡ false
-sees_over signs i ts over = ap (λ (l : List Sign). starts class_of (sign_codes l) ts) (drop_all i signs over) ∙ starts_none ts
-
-pub one_pass : (signs : List Sign) (i : ℕ) (d : Sign) (ts : List Token) → i < length signs → starts class_of (these (get_or signs i d)) ts ≡ false → one_of (drop i signs) ts ≡ one_of (drop (suc i) signs) ts
-unfolding one_of
-one_pass [] i d ts below off = absurd (omega arith)
-one_pass (y ∷ ys) zero d ts below off = rw off refl
-one_pass (y ∷ ys) (suc i) d ts below off = one_pass ys i d ts (omega arith) off
-
-one_take : (signs : List Sign) (i : ℕ) (d : Sign) (ts : List Token) → i < length signs → starts class_of (these (get_or signs i d)) ts ≡ true → one_of (drop i signs) ts ≡ signed (get_or signs i d) ts
-unfolding one_of
-one_take [] i d ts below on = absurd (omega arith)
-one_take (y ∷ ys) zero d ts below on = rw on refl
-one_take (y ∷ ys) (suc i) d ts below on = one_take ys i d ts (omega arith) on
-
-pub one_gives : (signs : List Sign) (i : ℕ) (d : Sign) (ts mid : List Token) (place : Place) → i < length signs → starts class_of (these (get_or signs i d)) ts ≡ true → sign (get_or signs i d) ts ≡ Ok (place, mid) → one_of (drop i signs) ts ≡ Ok (o.Sign place (get_or signs i d), mid)
-unfolding signed
-one_gives signs i d ts mid place below on e = one_take signs i d ts below on ∙ rw e refl
-
-pub one_stops : (signs : List Sign) (i : ℕ) (d : Sign) (ts end : List Token) → i < length signs → starts class_of (these (get_or signs i d)) ts ≡ true → sign (get_or signs i d) ts ≡ Err end → one_of (drop i signs) ts ≡ Err end
-unfolding signed
-one_stops signs i d ts end below on e = one_take signs i d ts below on ∙ rw e refl
-
-pub one_over : (signs : List Sign) (i : ℕ) (ts : List Token) → length signs ≤ i → one_of (drop i signs) ts ≡ Err ts
-unfolding one_of
-one_over signs i ts over = rw (drop_all i signs over) refl
 
 -- ---- comparisons
 

@@ -16,7 +16,7 @@ use Rattle.dart_syntax.specs.Expressions.{Row, chained, shifts, single, comparis
 use Rattle.dart_syntax.specs.Levels.{sign_level}
 use Rattle.grammar_laws.specs.Depth.{is_below}
 use Rattle.grammar_laws.specs.Halves.{strict, no_half}
-use Rattle.grammar_laws.specs.Readers.{Reader, Outcome, and_then, mapped, starts, either, option, followed, continued_by, never, some, when}
+use Rattle.grammar_laws.specs.Readers.{Reader, Outcome, and_then, mapped, starts, either, option, followed, continued_by, never, some}
 use Rattle.grammar_laws.proofs.Codes.{and_false}
 use Rattle.token_codes.specs.Codes.{class_of, these, this_word, sign_codes}
 use Rattle.token_codes.specs.Leaves.{sign, word, one_of}
@@ -28,7 +28,7 @@ use Rattle.syntax_readers.specs.Types.{type_reader}
 use Rattle.parse_nest.specs.Stages.{expr_at}
 use Rattle.parse_unary.specs.Views.{row_reader}
 use Rattle.parse_row.proofs.Signs.{starts_none}
-use Rattle.parse_row.specs.Rows.{behind, whole_row, signs_in, row_signs, row_binds, row_repeats, row_codes, stands_before, item, item_repeats, tails_behind, sign_row, half_behind, leaves_shift, may_shift, halved_row, shift_item, shift_leaves, shift_step, shifts_behind, shift_from, shift_row, with_one, one_behind, operator_behind, tested_behind, cast_behind, compare_behind, compare_row, choice_behind, choice_row}
+use Rattle.parse_row.specs.Rows.{behind, whole_row, row_signs, row_binds, row_repeats, stands_before, item, tails_behind, sign_row, half_behind, may_shift, halved_row, shift_item, shifts_behind, shift_from, shift_row, with_one, one_behind, operator_behind, tested_behind, cast_behind, compare_behind, compare_row, choice_behind, choice_row}
 
 -- ---- a row reads the row before first
 

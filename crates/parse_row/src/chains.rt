@@ -10,9 +10,10 @@ ghost use Rattle.parse_row.specs.Rows as spec;
 ghost use Rattle.parse_row.specs.Rows.{view_item, item_height, view_tails, open_tails_height};
 
 use crate::lower::{Lower, OpenTail, OpenTails};
-use crate::operators::{another_comes, begins, goes_on, is_bare, operator};
+use crate::operators::{another_comes, begins, goes_on, operator};
 use dart_node::make::expression as make;
 use dart_tree::expression::Tail;
+use parse_unary::target::is_bare;
 use parse_unary::unary::OpenOperand;
 use token_cursor::cursor::Cursor;
 use token_cursor::error::ReadFault;

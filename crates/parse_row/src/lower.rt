@@ -5,9 +5,9 @@ ghost use Rattle.parse_unary.specs.Views.{open_operand, open_operand_height};
 ghost use Rattle.parse_row.specs.Lower.{ReadsRows};
 ghost use Rattle.parse_row.specs.Rows as spec;
 
-use crate::operators::is_bare;
 use dart_base::place::Place;
 use dart_tree::expression::Tail;
+use parse_unary::target::is_bare;
 use parse_unary::unary::OpenOperand;
 use std::alloc::Global;
 use token_cursor::cursor::Cursor;

@@ -5,20 +5,22 @@ ghost use Rattle.dart_tree.specs.Depth as height;
 ghost use Rattle.dart_tree.specs.View as view;
 ghost use Rattle.dart_syntax.specs.Edges.{question};
 ghost use Rattle.grammar_laws.specs.Readers.{starts};
-ghost use Rattle.token_codes.specs.Codes.{class_of, sign_codes, these};
+ghost use Rattle.token_codes.specs.Codes.{class_of, these};
 ghost use Rattle.token_codes.specs.Leaves as spec;
 ghost use Rattle.token_cursor.specs.Gives.{Gives, same};
-ghost use Rattle.syntax_readers.specs.Levels.{compare_codes, is_bare, shift_codes, shift_operator, comparing};
+ghost use Rattle.syntax_readers.specs.Levels.{compare_codes, shift_codes, shift_operator, comparing};
 ghost use Rattle.parse_unary.specs.Views.{open_operand};
 ghost use Rattle.parse_row.specs.Rows.{row_signs, row_binds, row_repeats, row_codes, stands_before, repeats_behind, leaves_shift, may_shift, half_behind, order_codes, test_codes, codes_behind};
 
 use dart_base::place::Place;
 use dart_token::sign::Sign;
 use dart_token::word::Word;
-use dart_tree::expression::{Operand, Primary};
+use dart_tree::expression::Operand;
 use dart_tree::operator::Operator;
 use parse_edge::edge::{COMPARES, QUESTION, leaves, leaves_less};
 use parse_literal::look::sees_operand;
+use parse_unary::operator::{one_of, sees_any};
+use parse_unary::target::is_bare;
 use parse_unary::unary::OpenOperand;
 use token_cursor::cursor::Cursor;
 use token_cursor::error::ReadFault;
@@ -102,36 +104,11 @@ fn repeats(row: usize) -> bool
     row != EQUAL_ROW
 }
 
-// Whether one of these signs comes.
-fn sees_one(cursor: &Cursor<'_>, signs: &[Sign]) -> bool
-    ensures { result ≡ starts class_of (sign_codes signs.now) cursor.now }
-{
-    for sign in signs {
-        if cursor.sees(*sign) {
-            return true;
-        }
-    }
-    false
-}
-
-// An operator of one sign, one of these.
-fn one_of(cursor: &mut Cursor<'_>, signs: &[Sign]) -> Result<Operator, ReadFault>
-    ensures { Gives same (spec.one_of signs.now cursor.old) result cursor.new }
-{
-    for sign in signs {
-        if cursor.sees(*sign) {
-            let place = cursor.expect(*sign)?;
-            return Ok(Operator::Sign(place, *sign));
-        }
-    }
-    Err(ReadFault::Stuck)
-}
-
 /// Whether an operator of this row comes.
 pub fn sees_operator(cursor: &Cursor<'_>, row: usize) -> bool
     ensures { result ≡ starts class_of (row_codes row) cursor.now }
 {
-    sees_one(cursor, signs_of(row))
+    sees_any(cursor, signs_of(row))
 }
 
 /// Takes an operator of this row (ECMA-408, 16.21 to 16.28).
@@ -146,17 +123,6 @@ pub fn comparison(cursor: &mut Cursor<'_>) -> Result<Operator, ReadFault>
     ensures { Gives same (spec.one_of comparing cursor.old) result cursor.new }
 {
     one_of(cursor, &COMPARISONS)
-}
-
-/// Whether an operand is `super` alone.
-#[tactic(auto, unfolding(dart_tree::specs::View::operand, dart_tree::specs::View::primary))]
-pub fn is_bare(tree: &Operand) -> bool
-    ensures { result ≡ is_bare (view.operand tree.now) }
-{
-    match tree {
-        Operand::Primary(Primary::BareSuper(_)) => true,
-        _ => false,
-    }
 }
 
 // Whether an operand may stand before an operator that binds so tightly.

@@ -1,8 +1,9 @@
 use Rattle.std.proofs.Common.{◌≡◌, ℕ, ◌+◌, ◌-◌, subst, arith}
 use Rattle.token_cursor.specs.Gives.{GivesHigh}
-use Rattle.parse_expr.specs.Views.{exprs_at, open_cascade, open_cascade_height}
+use Rattle.parse_expr.specs.Views.{open_cascade, open_cascade_height}
 use Rattle.parse_expr.proofs.Cascading.{cascade_never, cascade_at}
 use Rattle.parse_expr.proofs.cascade.cascade.Goals as goal
+use Rattle.parse_nest.specs.Stages.{exprs_at}
 
 pub returns-then-depth-eq0 : goal.returns-then-depth-eq0
 returns-then-depth-eq0 g c = cascade_never c.args.depth c.args.cursor.now (omega (arith, c.if-depth-eq0.true))

@@ -1,17 +1,17 @@
-use Rattle.std.proofs.Common.{◌+◌, ap, ◌∙◌, sym, arith}
+use Rattle.std.proofs.Common.{◌+◌, ap, ◌∙◌, arith}
 use Rattle.std.proofs.lemmas.Result.{err_from_is_err_and}
 use Rattle.dart_token.specs.declared.sign.Sign.TheVariants as s
 use Rattle.dart_tree.specs.Lists.{selectors_of}
-use Rattle.dart_tree.specs.View as view
 use Rattle.dart_syntax.specs.Expressions.{selectors_assign}
 use Rattle.token_codes.specs.Leaves.{sign}
 use Rattle.token_cursor.specs.Gives.{same}
 use Rattle.token_cursor.proofs.Passing.{passes}
 use Rattle.parse_unary.proofs.Staged.{passes_flat}
 use Rattle.syntax_readers.specs.Expressions.{cascade_over}
-use Rattle.parse_expr.specs.Views.{exprs_at, section_reader, value_reader, open_selectors, open_selectors_height, open_value, open_value_height, open_cascade, open_cascade_height}
+use Rattle.parse_expr.specs.Views.{section_reader, value_reader, open_selectors, open_selectors_height, open_value, open_value_height, open_cascade, open_cascade_height}
 use Rattle.parse_expr.proofs.Cascading.{no_dots, no_section, no_value, with_all}
 use Rattle.parse_expr.proofs.cascade.cascade_over.Goals as goal
+use Rattle.parse_nest.specs.Stages.{exprs_at}
 
 pub returns-in_err-dots : goal.returns-in_err-dots
 returns-in_err-dots g c =

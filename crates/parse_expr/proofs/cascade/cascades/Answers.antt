@@ -1,9 +1,10 @@
-use Rattle.std.proofs.Common.{◌-◌, ◌∙◌, List, [], ◌∷◌, sym, ap, arith}
+use Rattle.std.proofs.Common.{◌-◌, ◌∙◌, [], ◌∷◌, sym, arith}
 use Rattle.std.proofs.lemmas.Result.{err_from_is_err_and}
 use Rattle.token_cursor.proofs.Passing.{passes}
-use Rattle.parse_expr.specs.Views.{exprs_at, open_cascade, open_cascade_height, open_cascades, open_cascades_height, cascades_reader}
+use Rattle.parse_expr.specs.Views.{open_cascade, open_cascade_height, open_cascades, open_cascades_height, cascades_reader}
 use Rattle.parse_expr.proofs.Cascading.{no_first, only, only_height, longer_height, begins, stops, over, fails, last, goes_on}
 use Rattle.parse_expr.proofs.cascade.cascades.Goals as goal
+use Rattle.parse_nest.specs.Stages.{exprs_at}
 
 pub returns-in_err-first : goal.returns-in_err-first
 returns-in_err-first g c =

@@ -1,6 +1,5 @@
-use Rattle.std.proofs.Common.{Option, None, ap, ◌∙◌, sym, refl}
+use Rattle.std.proofs.Common.{None, ap, ◌∙◌}
 use Rattle.std.proofs.lemmas.Result.{err_from_is_err_and}
-use Rattle.dart_base.specs.declared.place.Place.{Place}
 use Rattle.dart_tree.specs.Depth as height
 use Rattle.dart_tree.specs.Lists.{selectors_of}
 use Rattle.dart_syntax.specs.Expressions.{selectors_assign}
@@ -8,9 +7,10 @@ use Rattle.token_cursor.proofs.Passing.{passes}
 use Rattle.syntax_readers.specs.Combinators.{shut}
 use Rattle.syntax_readers.specs.Primaries.{section_over}
 use Rattle.parse_primary.specs.Views.{view_section}
-use Rattle.parse_expr.specs.Views.{exprs_at, section_reader, open_selectors, open_selectors_height}
+use Rattle.parse_expr.specs.Views.{section_reader, open_selectors, open_selectors_height}
 use Rattle.parse_expr.proofs.Halving.{halved_fails, halved_gives, half_at, shut_fails, shut_gives}
 use Rattle.parse_expr.proofs.cascade.open_section.Goals as goal
+use Rattle.parse_nest.specs.Stages.{exprs_at}
 
 pub returns-in_err-selectors : goal.returns-in_err-selectors
 returns-in_err-selectors g c =

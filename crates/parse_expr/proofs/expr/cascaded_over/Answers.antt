@@ -1,15 +1,15 @@
 use Rattle.std.proofs.Common.{◌≡◌, ◌∙◌, sym, ap, refl, arith}
 use Rattle.std.proofs.lemmas.Result.{err_from_is_err_and}
 use Rattle.dart_tree.specs.Tree as tree
-use Rattle.dart_tree.specs.View as view
 use Rattle.dart_tree.specs.Lists.{cascades_of}
 use Rattle.grammar_laws.proofs.Cuts.{gave}
 use Rattle.token_cursor.proofs.Passing.{passes}
 use Rattle.syntax_readers.specs.Expressions.{cascaded_over}
 use Rattle.parse_unary.specs.Views.{open_operand, open_operand_height, row_reader}
-use Rattle.parse_expr.specs.Views.{exprs_at, levels_at, open_cascades, open_cascades_height, cascades_reader, open_cascaded, open_cascaded_height}
+use Rattle.parse_expr.specs.Views.{open_cascades, open_cascades_height, cascades_reader, open_cascaded, open_cascaded_height}
 use Rattle.parse_expr.proofs.Behind.{cascaded_fails, cascaded_alone, cascaded_more, alone_high}
 use Rattle.parse_expr.proofs.expr.cascaded_over.Goals as goal
+use Rattle.parse_nest.specs.Stages.{exprs_at, levels_at}
 
 pub returns-in_err-operand : goal.returns-in_err-operand
 returns-in_err-operand g c =

@@ -4,10 +4,10 @@ use Rattle.token_cursor.proofs.Passing.{passes}
 use Rattle.syntax_readers.specs.Expressions.{opened}
 use Rattle.syntax_readers.specs.Levels.{assigns}
 use Rattle.parse_unary.specs.Views.{open_operand, open_operand_height, row_reader}
-use Rattle.std.proofs.Common.{ap, ◌∙◌}
-use Rattle.parse_expr.specs.Views.{levels_at, half_reader}
+use Rattle.std.proofs.Common.{◌∙◌}
 use Rattle.parse_expr.proofs.Halving.{halved_fails, halved_gives, half_at}
 use Rattle.parse_expr.proofs.expr.opened.Goals as goal
+use Rattle.parse_nest.specs.Stages.{levels_at}
 
 pub returns-in_err-operand : goal.returns-in_err-operand
 unfolding opened

@@ -4,8 +4,9 @@ use Rattle.syntax_readers.specs.Expressions.{opened}
 use Rattle.parse_nest.specs.Open.{open_expr, open_expr_height}
 use Rattle.parse_unary.specs.Views.{open_operand, open_operand_height}
 use Rattle.std.proofs.Common.{◌+◌, refl}
-use Rattle.parse_expr.specs.Views.{levels_at, operand_first}
+use Rattle.parse_expr.specs.Views.{operand_first}
 use Rattle.parse_expr.proofs.expr.operand_first.Goals as goal
+use Rattle.parse_nest.specs.Stages.{levels_at}
 
 pub returns-in_err-first : goal.returns-in_err-first
 returns-in_err-first g c =

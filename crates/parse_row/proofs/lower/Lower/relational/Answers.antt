@@ -1,4 +1,4 @@
-use Rattle.std.proofs.Common.{sym, refl}
+use Rattle.std.proofs.Common.{sym}
 use Rattle.parse_unary.specs.Views.{open_operand, open_operand_height}
 use Rattle.parse_row.specs.Rows.{compare_row, compare_behind}
 use Rattle.parse_row.proofs.Behind.{compare_stops, compare_goes}
