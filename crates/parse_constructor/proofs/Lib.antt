@@ -1,0 +1,5 @@
+pub mod Cutting
+pub mod Initializing
+pub mod Scanning
+pub mod Seeking
+pub mod Stages
