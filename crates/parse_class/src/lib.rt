@@ -1,0 +1,9 @@
+// The code that reads type parameters, aliases, members and classes.
+#![tactic(auto)]
+
+pub mod alias;
+pub mod class;
+pub mod look;
+pub mod member;
+pub mod part;
+pub mod type_parameter;
