@@ -3,3 +3,4 @@ pub mod Classes
 pub mod Integer
 pub mod Kind
 pub mod Object
+pub mod TyCode

@@ -1,5 +1,20 @@
 // The native functions: the external declarations of the prelude, in its order.
 
+use crate::kind::ThrowKind;
+use crate::value::Value;
+
+/// What a native answers, beside what it does to the store.
+#[derive(Clone, Copy, Debug, PartialEq, Eq)]
+pub enum Answer {
+    Value(Value),
+    /// It throws an error or exception of this class, whose message is null.
+    Throw(ThrowKind),
+    /// An integer outside of 128 bits ends the turn.
+    IntegerLimit,
+    /// A double ends the turn.
+    NeedsDouble,
+}
+
 /// A native function, named after its class and its declared name. Another one is also an external declaration of
 /// the prelude and a row of the natives' table.
 #[derive(Clone, Copy, Debug, PartialEq, Eq)]
