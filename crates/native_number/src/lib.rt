@@ -1,0 +1,4 @@
+// The natives of whole numbers.
+#![tactic(auto)]
+
+pub mod number;
