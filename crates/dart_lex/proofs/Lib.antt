@@ -1,2 +1,3 @@
 pub mod LexLaws
 pub mod RenderLaws
+pub mod TextLaws

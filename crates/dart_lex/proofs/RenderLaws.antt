@@ -135,21 +135,21 @@ greater_ends around inner kind next p q rest e f h g =
     let (more, second) = begins_bytes inner next q f g in
     rw kinds (rw first (rw second (greater_stops around (more ++ rest))))
 
-more_lines : (m n : ℕ) → m ≤ n → (m == n) ≡ false → (d : ℕ) × (n - m ≡ suc d) × (n ≡ m + suc d)
-more_lines m n le e = let lt : m < n = grind (arith, nat_tests) in ((n - m) - 1, omega arith, omega arith)
+more_lines : (m n : ℕ) → nat_lt m n ≡ true → (d : ℕ) × (n - m ≡ suc d) × (n ≡ m + suc d)
+more_lines m n e = let lt : m < n = grind (arith, nat_tests) in ((n - m) - 1, omega arith, omega arith)
 
-token_ends : (nesting : List (Option Quote)) (a : Token) (tokens : List Token) → IsPiece (innermost nesting) (k.Lexeme a.kind) a.lexeme → Nests (opened nesting (k.Lexeme a.kind)) tokens → Rising a.place.line tokens
+token_ends : (nesting : List (Option Quote)) (a : Token) (tokens : List Token) → IsPiece (innermost nesting) (k.Lexeme a.kind) a.lexeme → Nests (opened nesting (k.Lexeme a.kind)) tokens
     → piece_at (innermost nesting) (a.lexeme ++ text_behind a tokens) ≡ (k.Lexeme a.kind, length a.lexeme)
-token_ends nesting a [] h nest rise = stops (innermost nesting) a.kind a.lexeme 10 [] (inr refl) h
-token_ends nesting a (b ∷ tokens) h nest rise = by_bool (a.place.line == b.place.line)
+token_ends nesting a [] h nest = stops (innermost nesting) a.kind a.lexeme 10 [] (inr refl) h
+token_ends nesting a (b ∷ tokens) h nest = by_bool (nat_lt a.place.line b.place.line)
+    (λ y.
+    let (d, n, m) = more_lines a.place.line b.place.line y in
+    rw y (rw n (stops (innermost nesting) a.kind a.lexeme 10 (replicate d 10 ++ (b.lexeme ++ text_behind b tokens)) (inr refl) h)))
     (λ y. by_bool (is_greater a.kind && begins_greater b.kind)
     (λ z.
     let both = and_true (is_greater a.kind) (begins_greater b.kind) z in
     rw (y, z) (greater_ends (innermost nesting) (innermost (opened nesting (k.Lexeme a.kind))) a.kind b.kind a.lexeme b.lexeme (text_behind b tokens) both.0 both.1 h nest.0))
     (λ z. rw (y, z) (stops (innermost nesting) a.kind a.lexeme 32 (b.lexeme ++ text_behind b tokens) (inl refl) h)))
-    (λ y.
-    let (d, n, m) = more_lines a.place.line b.place.line rise.0 y in
-    rw y (rw n (stops (innermost nesting) a.kind a.lexeme 10 (replicate d 10 ++ (b.lexeme ++ text_behind b tokens)) (inr refl) h)))
 
 -- ---- the cut of what is written behind a token
 
@@ -166,13 +166,21 @@ behind_cut : (unit : ℕ) (nesting : List (Option Quote)) (a : Token) (tokens : 
 behind_cut unit nesting a [] nest rise of_unit small = (record { class = k.Blank; bytes = 10 ∷ [] } ∷ [], gap_cut nesting 10 [] [] [] refl tt tt refl, λ place e f. ([], refl, tt))
 behind_cut unit nesting a (b ∷ tokens) nest rise of_unit small =
     let (pieces, cut, reads) = behind_cut unit (opened nesting (k.Lexeme b.kind)) b tokens nest.1 rise.1 of_unit.1 small.1 in
-    let ends = token_ends nesting b tokens nest.0 nest.1 rise.1 in
+    let ends = token_ends nesting b tokens nest.0 nest.1 in
     let some : 0 < length (b.lexeme ++ text_behind b tokens) = some_bytes (innermost nesting) (k.Lexeme b.kind) b.lexeme (text_behind b tokens) nest.0 in
     let whole : Cut nesting (b.lexeme ++ text_behind b tokens) (record { class = k.Lexeme b.kind; bytes = b.lexeme } ∷ pieces) = cut_found nesting (k.Lexeme b.kind) b.lexeme (text_behind b tokens) pieces ends some cut in
     let all : Reads unit b.place.line (record { class = k.Lexeme b.kind; bytes = b.lexeme } ∷ pieces) (b ∷ tokens) = reads_token unit b tokens pieces small.0 (token_in_line (innermost nesting) b.kind b.lexeme nest.0) of_unit.0 reads in
     let stop : Stops is_blank (b.lexeme ++ text_behind b tokens) = blank_first (innermost nesting) b.kind b.lexeme (text_behind b tokens) ends (token_some (innermost nesting) (k.Lexeme b.kind) b.lexeme nest.0) in
-    by_bool (a.place.line == b.place.line)
+    by_bool (nat_lt a.place.line b.place.line)
     (λ y.
+    let (d, n, m) = more_lines a.place.line b.place.line y in
+    rw y (rw n (
+      record { class = k.Blank; bytes = 10 ∷ replicate d 10 } ∷ record { class = k.Lexeme b.kind; bytes = b.lexeme } ∷ pieces,
+      gap_cut nesting 10 (replicate d 10) (b.lexeme ++ text_behind b tokens) (record { class = k.Lexeme b.kind; bytes = b.lexeme } ∷ pieces) refl (blanks d) stop whole,
+      reads_blank unit a.place.line b.place.line (10 ∷ replicate d 10) (b ∷ tokens) (record { class = k.Lexeme b.kind; bytes = b.lexeme } ∷ pieces) (λ place e. let there = lines_passed (suc d) place in (there.0 ∙ ap (λ line. line + suc d) e ∙ sym m, there.1)) all,
+    )))
+    (λ y.
+    let le = rise.0 in
     let same : a.place.line ≡ b.place.line = grind (arith, nat_tests) in
     by_bool (is_greater a.kind && begins_greater b.kind)
     (λ z. rw (y, z) (record { class = k.Lexeme b.kind; bytes = b.lexeme } ∷ pieces, whole, subst (λ line. Reads unit line (record { class = k.Lexeme b.kind; bytes = b.lexeme } ∷ pieces) (b ∷ tokens)) (sym same) all))
@@ -180,13 +188,6 @@ behind_cut unit nesting a (b ∷ tokens) nest rise of_unit small =
       record { class = k.Blank; bytes = 32 ∷ [] } ∷ record { class = k.Lexeme b.kind; bytes = b.lexeme } ∷ pieces,
       gap_cut nesting 32 [] (b.lexeme ++ text_behind b tokens) (record { class = k.Lexeme b.kind; bytes = b.lexeme } ∷ pieces) refl tt stop whole,
       reads_blank unit a.place.line b.place.line (32 ∷ []) (b ∷ tokens) (record { class = k.Lexeme b.kind; bytes = b.lexeme } ∷ pieces) (λ place e. (e ∙ same, refl)) all,
-    )))
-    (λ y.
-    let (d, n, m) = more_lines a.place.line b.place.line rise.0 y in
-    rw y (rw n (
-      record { class = k.Blank; bytes = 10 ∷ replicate d 10 } ∷ record { class = k.Lexeme b.kind; bytes = b.lexeme } ∷ pieces,
-      gap_cut nesting 10 (replicate d 10) (b.lexeme ++ text_behind b tokens) (record { class = k.Lexeme b.kind; bytes = b.lexeme } ∷ pieces) refl (blanks d) stop whole,
-      reads_blank unit a.place.line b.place.line (10 ∷ replicate d 10) (b ∷ tokens) (record { class = k.Lexeme b.kind; bytes = b.lexeme } ∷ pieces) (λ place e. let there = lines_passed (suc d) place in (there.0 ∙ ap (λ line. line + suc d) e ∙ sym m, there.1)) all,
     )))
 
 -- ---- the whole text
@@ -225,7 +226,7 @@ pub rendered_restores : (unit : ℕ) (tokens : List Token) → Rising 1 tokens �
 rendered_restores unit [] rise nest of_unit small = ([], refl, ([], refl, tt))
 rendered_restores unit (a ∷ tokens) rise nest of_unit small =
     let (pieces, cut, reads) = behind_cut unit (opened [] (k.Lexeme a.kind)) a tokens nest.1 rise.1 of_unit.1 small.1 in
-    let ends = token_ends [] a tokens nest.0 nest.1 rise.1 in
+    let ends = token_ends [] a tokens nest.0 nest.1 in
     let some : 0 < length (a.lexeme ++ text_behind a tokens) = some_bytes (innermost []) (k.Lexeme a.kind) a.lexeme (text_behind a tokens) nest.0 in
     let whole : Cut [] (a.lexeme ++ text_behind a tokens) (record { class = k.Lexeme a.kind; bytes = a.lexeme } ∷ pieces) = cut_found [] (k.Lexeme a.kind) a.lexeme (text_behind a tokens) pieces ends some cut in
     let all : Reads unit a.place.line (record { class = k.Lexeme a.kind; bytes = a.lexeme } ∷ pieces) (a ∷ tokens) = reads_token unit a tokens pieces small.0 (token_in_line (innermost []) a.kind a.lexeme nest.0) of_unit.0 reads in

@@ -1,5 +1,5 @@
 -- Tokens written out, each on its own line.
-use Rattle.std.specs.Prelude.{◌≡◌, ◌==◌, ◌≤◌, ◌&&◌, ℕ, ◌-◌, List, [], ◌∷◌, ◌++◌, replicate, Bool, true, false, if◌then◌else◌, Option, Ok, codes}
+use Rattle.std.specs.Prelude.{◌≡◌, ◌≤◌, ◌&&◌, ℕ, nat_lt, ◌-◌, List, [], ◌∷◌, ◌++◌, replicate, Bool, true, false, if◌then◌else◌, Option, Ok, codes}
 use Rattle.std.specs.Str.{byte}
 use Rattle.dart_base.specs.declared.limit.TheConstants.{GREATEST_INTEGER}
 use Rattle.dart_token.specs.declared.sign.Sign.TheVariants as s
@@ -23,11 +23,11 @@ begins_greater (t.Sign s.Greater) = true
 begins_greater (t.Sign s.GreaterEqual) = true
 begins_greater other = false
 
--- what stands between a token and the next: LFs, or a blank, or nothing between `>` and `>` or `>=`
+-- what stands between a token and the next: LFs up to a later line, or a blank, or nothing between `>` and `>` or `>=`
 abbrev pub separator : Token → Token → List ℕ
-separator a b = if a.place.line == b.place.line
-    then (if is_greater a.kind && begins_greater b.kind then [] else codes " ")
-    else replicate (b.place.line - a.place.line) (byte "\n")
+separator a b = if nat_lt a.place.line b.place.line
+    then replicate (b.place.line - a.place.line) (byte "\n")
+    else (if is_greater a.kind && begins_greater b.kind then [] else codes " ")
 
 -- what stands behind a token: the further ones, and an LF at the end
 abbrev pub text_behind : Token → List Token → List ℕ

@@ -1,5 +1,5 @@
 // Tokens written out.
-ghost use Rattle.std.specs.Prelude.{◌≡◌, ◌≤◌, ◌++◌, ◌∷◌, ℕ, [], replicate, IfOk, OnOk};
+ghost use Rattle.std.specs.Prelude.{◌≡◌, ◌++◌, ℕ, [], replicate, IfOk, OnOk};
 ghost use Rattle.std.specs.Str.{byte};
 ghost use Rattle.dart_lex.specs.Render.{is_greater, begins_greater, separator, text_behind, rendered, Rising, Nests, InUnit, InRange, Restores};
 
@@ -10,14 +10,14 @@ use std::alloc::{AllocError, Global};
 
 /// The text of tokens: each stands on its own line, and the last is followed by a line feed.
 ///
-/// Tokens of a line are parted by one blank, but `>` and a following `>` or `>=` by nothing. No token gives no byte.
-/// Where each lexeme is one of its kind, strings and braces nest and no integer is too large, lexing the text gives the
-/// tokens back, columns aside.
+/// Tokens of a line are parted by one blank, but `>` and a following `>` or `>=` by nothing. No token gives no byte. A
+/// token whose line is before that of the token before it stands on that one's line.
+/// Where no line is before the one before it, each lexeme is one of its kind, strings and braces nest and no integer is
+/// too large, lexing the text gives the tokens back, columns aside.
 pub fn render(alloc: Global, tokens: &[Token]) -> Result<Bytes, AllocError>
-    requires { Rising 1 tokens.now }
     ensures text { IfOk result (λ bytes. bytes ≡ rendered tokens.now) }
-    ensures restores { IfOk result (λ bytes. (unit : ℕ) → Nests [] tokens.now → InUnit unit tokens.now
-        → InRange tokens.now → Restores unit tokens.now bytes) }
+    ensures restores { IfOk result (λ bytes. (unit : ℕ) → Rising 1 tokens.now → Nests [] tokens.now
+        → InUnit unit tokens.now → InRange tokens.now → Restores unit tokens.now bytes) }
 {
     let mut out = Bytes::new(alloc);
     push_tokens(&mut out, tokens)?;
@@ -26,20 +26,18 @@ pub fn render(alloc: Global, tokens: &[Token]) -> Result<Bytes, AllocError>
 
 // Adds the text of tokens.
 fn push_tokens(out: &mut Bytes, tokens: &[Token]) -> Result<(), AllocError>
-    requires { Rising 1 tokens.now }
     ensures { OnOk result (out.new ≡ out.old ++ rendered tokens.now) }
 {
     let [first, more @ ..] = tokens else {
         return Ok(());
     };
-    push_lines(out, first.place.line - 1)?;
+    push_lines(out, first.place.line.saturating_sub(1))?;
     out.append(first.lexeme.as_slice())?;
     push_behind(out, first, more)
 }
 
 // Adds the text behind a token.
 fn push_behind(out: &mut Bytes, first: &Token, tokens: &[Token]) -> Result<(), AllocError>
-    requires { Rising first.now.place.line tokens.now }
     ensures { OnOk result (out.new ≡ out.old ++ text_behind first.now tokens.now) }
 {
     let mut before = first;
@@ -52,10 +50,9 @@ fn push_behind(out: &mut Bytes, first: &Token, tokens: &[Token]) -> Result<(), A
 }
 
 fn push_separator(out: &mut Bytes, before: &Token, token: &Token) -> Result<(), AllocError>
-    requires { before.now.place.line ≤ token.now.place.line }
     ensures { OnOk result (out.new ≡ out.old ++ separator before.now token.now) }
 {
-    if before.place.line != token.place.line {
+    if before.place.line < token.place.line {
         return push_lines(out, token.place.line - before.place.line);
     }
     if is_greater(before.kind) && begins_greater(token.kind) {

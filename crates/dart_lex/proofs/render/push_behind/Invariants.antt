@@ -1,9 +1,7 @@
 use Rattle.std.proofs.Common.{◌≡◌, ◌++◌, drop}
-use Rattle.dart_lex.specs.Render.{text_behind, Rising}
+use Rattle.dart_lex.specs.Render.{text_behind}
 use Rattle.dart_lex.proofs.render.push_behind.Given as goal
 
 abbrev pub invariant-loop-token : goal.invariant-loop-token
-invariant-loop-token l = record {
-  rising : Rising l.before.place.line (drop l.token-index l.tokens);
-  text : l.fn.out ++ text_behind l.fn.first l.tokens ≡ l.out ++ text_behind l.before (drop l.token-index l.tokens);
-}
+invariant-loop-token l =
+    l.fn.out ++ text_behind l.fn.first l.tokens ≡ l.out ++ text_behind l.before (drop l.token-index l.tokens)

@@ -6,4 +6,4 @@ use Rattle.dart_lex.proofs.render.render.Goals as goal
 pub returns-clause-restores : goal.returns-clause-restores
 returns-clause-restores c =
     let text : c.push_tokens.new.out ≡ rendered c.args.tokens.now = c.in_ok-push_tokens.ensures ∙ ap (λ bytes. bytes ++ rendered c.args.tokens.now) c.new-out.ensures in
-    λ unit nest of_unit small. subst (Restores unit c.args.tokens.now) (sym text) (rendered_restores unit c.args.tokens.now c.requires nest of_unit small)
+    λ unit rise nest of_unit small. subst (Restores unit c.args.tokens.now) (sym text) (rendered_restores unit c.args.tokens.now rise nest of_unit small)
