@@ -1,0 +1,6 @@
+// From a text to its unit, and to its text without annotations.
+#![tactic(auto)]
+
+pub mod check;
+pub mod erased;
+pub mod fault;
