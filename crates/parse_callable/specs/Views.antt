@@ -1,5 +1,5 @@
 -- What contracts see of functions, accessors, operators and members, and their readers with the reader of types beside the others.
-use Rattle.std.specs.Prelude.{ℕ, max, Bool, true, false, List, [], ◌∷◌, Option, None}
+use Rattle.std.specs.Prelude.{ℕ, max, Bool, true, false, Option, None}
 use Rattle.dart_base.specs.declared.place.Place.{Place}
 use Rattle.dart_token.specs.declared.token.Token.{Token}
 use Rattle.dart_token.specs.declared.word.Word.TheVariants as w
@@ -22,14 +22,9 @@ use Rattle.syntax_readers.specs.Declarations.{external_or_none, result_before_ac
 use Rattle.syntax_readers.specs.Parameters.{body}
 use Rattle.syntax_readers.specs.Primaries.{ExprReaders}
 use Rattle.syntax_readers.specs.Types.{result, result_comes, result_before_name}
-use Rattle.token_codes.specs.Codes.{word_code}
 use Rattle.token_codes.specs.Leaves.{word, identifier}
 
 -- ---- what comes
-
--- the words that begin variables
-abbrev pub variables_first : List ℕ
-variables_first = word_code w.Var ∷ word_code w.Final ∷ word_code w.Const ∷ []
 
 -- `external` or nothing where it may stand, and else nothing
 abbrev pub external_if : Bool → Reader Token (Option Place)

@@ -1,19 +1,11 @@
 // Which tokens begin members of a class (ECMA-408, 10 Classes).
 ghost use Rattle.std.specs.Prelude.{◌≡◌};
 ghost use Rattle.dart_token.specs.declared.word.Word.TheVariants as w;
-ghost use Rattle.grammar_laws.specs.Readers.{starts, starts_two};
-ghost use Rattle.parse_callable.specs.Views.{variables_first};
+ghost use Rattle.grammar_laws.specs.Readers.{starts_two};
 ghost use Rattle.token_codes.specs.Codes.{class_of, this_word};
 
 use dart_token::word::Word;
 use token_cursor::cursor::Cursor;
-
-/// Whether the word of variables comes (ECMA-408, 8 Variables).
-pub fn sees_variables(cursor: &Cursor<'_>) -> bool
-    ensures { result ≡ starts class_of variables_first cursor.now }
-{
-    cursor.sees_word(Word::Var) || cursor.sees_word(Word::Final) || cursor.sees_word(Word::Const)
-}
 
 /// Whether `external` comes, and `static` behind it (ECMA-408, 9.4 External Functions).
 #[tactic(auto, using(parse_type::proofs::Looking::two_is))]

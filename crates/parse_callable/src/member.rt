@@ -17,7 +17,7 @@ ghost use Rattle.token_cursor.specs.Gives.{Gives, GivesHigh, same};
 
 use crate::accessor::accessor;
 use crate::function::function;
-use crate::look::{sees_external_static, sees_variables};
+use crate::look::sees_external_static;
 use crate::operator::operator_member;
 use dart_token::word::Word;
 use dart_tree::declaration::{MemberKind, Modifier};
@@ -25,7 +25,7 @@ use dart_tree::expression::Expr;
 use dart_tree::parameter::Parameters;
 use dart_tree::statement::Block;
 use parse_nest::inside::{Inside, OpenExpr};
-use parse_parameter::look::settle;
+use parse_parameter::look::{sees_variables, settle};
 use parse_parameter::variable::variables;
 use std::alloc::Global;
 use token_cursor::cursor::Cursor;

@@ -4,7 +4,8 @@ use Rattle.dart_token.specs.declared.token.Token.{Token}
 use Rattle.grammar_laws.specs.Readers.{starts}
 use Rattle.token_codes.specs.Codes.{class_of, names}
 use Rattle.syntax_readers.specs.Declarations.{member_first}
-use Rattle.parse_class.specs.Views.{modifier_first, declaring_first}
+use Rattle.parse_class.specs.Views.{modifier_first}
+use Rattle.parse_parameter.specs.Views.{declaring_first}
 use Rattle.parse_type.proofs.Looking.{starts_either}
 
 abbrev from_declaring : List ℕ

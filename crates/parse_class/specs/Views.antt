@@ -33,10 +33,6 @@ use Rattle.token_codes.specs.Leaves.{sign, plain_identifier}
 abbrev pub modifier_first : List ℕ
 modifier_first = sign_code s.AtSign ∷ word_code w.Static ∷ word_code w.External ∷ word_code w.Factory ∷ word_code w.Operator ∷ []
 
--- the words that begin variables, or what a function answers with
-abbrev pub declaring_first : List ℕ
-declaring_first = word_code w.Var ∷ word_code w.Final ∷ word_code w.Const ∷ word_code w.Void ∷ word_code w.Dynamic ∷ []
-
 -- ---- type parameters
 
 -- a type parameter without the comma before it

@@ -2,13 +2,14 @@
 ghost use Rattle.std.specs.Prelude.{◌≡◌};
 ghost use Rattle.dart_syntax.specs.Declarations.{text_of};
 ghost use Rattle.grammar_laws.specs.Readers.{starts};
-ghost use Rattle.parse_class.specs.Views.{modifier_first, declaring_first};
+ghost use Rattle.parse_class.specs.Views.{modifier_first};
 ghost use Rattle.syntax_readers.specs.Declarations.{member_first};
 ghost use Rattle.token_codes.specs.Codes.{class_of};
 
 use dart_token::sign::Sign;
 use dart_token::word::Word;
 use dart_tree::identifier::Identifier;
+use parse_parameter::look::sees_declaring;
 use token_cursor::cursor::Cursor;
 
 // Whether metadata or a word comes that stands before what a member declares.
@@ -20,17 +21,6 @@ fn sees_modifier(cursor: &Cursor<'_>) -> bool
         || cursor.sees_word(Word::External)
         || cursor.sees_word(Word::Factory)
         || cursor.sees_word(Word::Operator)
-}
-
-// Whether a word comes that begins variables or what a function answers with.
-fn sees_declaring(cursor: &Cursor<'_>) -> bool
-    ensures { result ≡ starts class_of declaring_first cursor.now }
-{
-    cursor.sees_word(Word::Var)
-        || cursor.sees_word(Word::Final)
-        || cursor.sees_word(Word::Const)
-        || cursor.sees_word(Word::Void)
-        || cursor.sees_word(Word::Dynamic)
 }
 
 /// Whether a member comes (ECMA-408, 10 Classes).

@@ -1,5 +1,5 @@
 // Initialisers (ECMA-408, 10.6.1, Initializer Lists).
-ghost use Rattle.std.specs.Prelude.{◌≡◌, ◌≤◌, ◌<◌, ◌+◌};
+ghost use Rattle.std.specs.Prelude.{◌≤◌, ◌<◌, ◌+◌};
 ghost use Rattle.dart_token.specs.declared.sign.Sign.TheVariants as s;
 ghost use Rattle.dart_tree.specs.Depth as height;
 ghost use Rattle.dart_tree.specs.UnitView as view;

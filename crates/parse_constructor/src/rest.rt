@@ -1,5 +1,5 @@
 // What stands behind the parameters of a generative constructor (ECMA-408, 10.6.1 Generative Constructors).
-ghost use Rattle.std.specs.Prelude.{◌≡◌, ◌≤◌, Err};
+ghost use Rattle.std.specs.Prelude.{◌≤◌, Err};
 ghost use Rattle.dart_tree.specs.Depth as height;
 ghost use Rattle.dart_tree.specs.Tree as tree;
 ghost use Rattle.dart_tree.specs.UnitView as unit_view;

@@ -4,8 +4,8 @@ use Rattle.dart_token.specs.declared.sign.Sign.TheVariants as s
 use Rattle.dart_token.specs.declared.token.Token.{Token}
 use Rattle.dart_token.specs.declared.word.Word.TheVariants as w
 use Rattle.grammar_laws.specs.Readers.{starts}
-use Rattle.parse_callable.specs.Views.{variables_first}
 use Rattle.parse_decl.specs.Views.{declaring_first, directive_first}
+use Rattle.parse_parameter.specs.Views.{variables_first}
 use Rattle.parse_type.proofs.Looking.{starts_either}
 use Rattle.syntax_readers.specs.Types.{type_first}
 use Rattle.syntax_readers.specs.Units.{item_first}

@@ -8,7 +8,7 @@ ghost use Rattle.token_codes.specs.Codes.{class_of};
 
 use dart_token::sign::Sign;
 use dart_token::word::Word;
-use parse_callable::look::sees_variables;
+use parse_parameter::look::sees_variables;
 use token_cursor::codes::OF;
 use token_cursor::cursor::Cursor;
 

@@ -1,5 +1,5 @@
 // The types that take what comes next.
-ghost use Rattle.std.specs.Prelude.{◌≡◌, ◌≤◌, ◌<◌};
+ghost use Rattle.std.specs.Prelude.{◌≡◌, ◌≤◌};
 ghost use Rattle.dart_tree.specs.View as view;
 ghost use Rattle.dart_syntax.specs.Levels.{level, sign_level};
 ghost use Rattle.parse_edge.specs.Opened.{opened_by};

@@ -1,5 +1,5 @@
 -- What contracts see of the parts of expressions and cascades, and the readers of these parts.
-use Rattle.std.specs.Prelude.{◌≡◌, ◌≤◌, map, ℕ, suc, max, Bool, false, ◌&&◌, if◌then◌else◌, List, [], ◌∷◌, ◌++◌, Option, None, Some, Ok}
+use Rattle.std.specs.Prelude.{◌≡◌, ◌≤◌, map, ℕ, suc, max, Bool, false, ◌&&◌, if◌then◌else◌, List, Option, None, Some, Ok}
 use Rattle.std.specs.Global.{Vec}
 use Rattle.dart_base.specs.declared.place.Place.{Place}
 use Rattle.dart_token.specs.declared.sign.Sign.TheVariants as s

@@ -77,6 +77,7 @@ fn sees_value(cursor: &Cursor<'_>, operand: &Operand, half: Option<Place>) -> bo
 }
 
 // An operand with cascades behind it.
+#[inline(never)]
 fn with_cascades<
     E: Fn(Global, &mut Cursor<'_>, usize, bool) -> Result<(OpenExpr, usize), ReadFault>,
     P: Fn(Global, &mut Cursor<'_>, usize) -> Result<(Parameters, usize), ReadFault>,
@@ -100,6 +101,7 @@ fn with_cascades<
 }
 
 // An operand to which something is assigned.
+#[inline(never)]
 fn with_value<
     E: Fn(Global, &mut Cursor<'_>, usize, bool) -> Result<(OpenExpr, usize), ReadFault>,
     P: Fn(Global, &mut Cursor<'_>, usize) -> Result<(Parameters, usize), ReadFault>,
@@ -186,6 +188,7 @@ fn operand_first<
 }
 
 // `throw` and what is thrown.
+#[inline(never)]
 #[tactic(auto, unfolding(syntax_readers::specs::Expressions::throw, dart_tree::specs::Depth::expr_height))]
 fn throw<
     E: Fn(Global, &mut Cursor<'_>, usize, bool) -> Result<(OpenExpr, usize), ReadFault>,

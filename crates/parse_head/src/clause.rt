@@ -1,5 +1,4 @@
 // What a class extends, mixes in and implements, and the bound of a type parameter.
-ghost use Rattle.std.specs.Prelude.{◌≡◌};
 ghost use Rattle.dart_token.specs.declared.word.Word.TheVariants as w;
 ghost use Rattle.dart_tree.specs.Depth as height;
 ghost use Rattle.dart_tree.specs.Depth.{height_if};

@@ -1,5 +1,4 @@
 // Names in lists, and enums.
-ghost use Rattle.std.specs.Prelude.{◌≡◌};
 ghost use Rattle.dart_tree.specs.UnitView as view;
 ghost use Rattle.token_cursor.specs.Gives.{Gives};
 ghost use Rattle.syntax_readers.specs.Declarations as spec;

@@ -1,5 +1,5 @@
 -- What the next tokens tell of statements.
-use Rattle.std.proofs.Common.{◌≡◌, ℕ, ◌+◌, ◌≤◌, ◌<◌, Bool, true, false, not, ◌&&◌, ◌||◌, List, [], ◌∷◌, ◌++◌, drop, length, refl, ap, ◌∙◌, arith}
+use Rattle.std.proofs.Common.{◌≡◌, ℕ, ◌+◌, ◌≤◌, Bool, true, false, not, ◌&&◌, ◌||◌, List, [], ◌∷◌, ◌++◌, drop, length, refl, ap, ◌∙◌, arith}
 use Rattle.dart_token.specs.declared.token.Token.{Token}
 use Rattle.dart_token.specs.declared.sign.Sign.TheVariants as s
 use Rattle.grammar_laws.specs.Codes.{has}
@@ -8,7 +8,8 @@ use Rattle.token_codes.specs.Codes.{class_of, names, these}
 use Rattle.syntax_readers.specs.Combinators.{behind_brackets}
 use Rattle.syntax_readers.specs.Primaries.{expr_first, body_comes}
 use Rattle.syntax_readers.specs.Statements.{compound_first, jump_first, stmt_first, declaration_first, part_first, label_comes, part_comes, calls}
-use Rattle.parse_jump.specs.Views.{case_first, declaring_first}
+use Rattle.parse_jump.specs.Views.{case_first}
+use Rattle.parse_parameter.specs.Views.{declaring_first}
 use Rattle.parse_type.proofs.Looking.{starts_either}
 
 pub declaration_first_is : (ts : List Token) → starts class_of declaration_first ts ≡ (starts class_of declaring_first ts || starts class_of names ts)

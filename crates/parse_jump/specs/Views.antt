@@ -1,5 +1,5 @@
 -- What contracts see of the parts of statements that hold no other, and their readers by the number of nodes above one another.
-use Rattle.std.specs.Prelude.{ℕ, ◌≡◌, Bool, true, false, List, [], ◌∷◌, ◌++◌}
+use Rattle.std.specs.Prelude.{ℕ, Bool, true, false, List, [], ◌∷◌}
 use Rattle.std.specs.Global.{Vec}
 use Rattle.dart_base.specs.declared.place.Place.{Place}
 use Rattle.dart_token.specs.declared.sign.Sign.TheVariants as s
@@ -26,14 +26,6 @@ use Rattle.token_codes.specs.Leaves.{sign, word, identifier}
 -- what begins a part of a `switch` behind its labels
 abbrev pub case_first : List ℕ
 case_first = word_code w.Case ∷ word_code w.Default ∷ []
-
--- the words that begin a declaration
-abbrev pub declaring_first : List ℕ
-declaring_first = word_code w.Var ∷ word_code w.Final ∷ word_code w.Const ∷ word_code w.Void ∷ word_code w.Dynamic ∷ []
-
--- the words that begin variables
-abbrev pub variables_first : List ℕ
-variables_first = word_code w.Var ∷ word_code w.Final ∷ word_code w.Const ∷ []
 
 -- whether a statement comes, in a part of a `switch` or elsewhere
 abbrev pub comes_in : Bool → List Token → Bool

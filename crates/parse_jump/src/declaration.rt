@@ -1,5 +1,5 @@
 // Declarations among statements (ECMA-408, 17.3 Local Variable Declaration and 17.4 Local Function Declaration).
-ghost use Rattle.std.specs.Prelude.{◌≡◌, ◌≤◌};
+ghost use Rattle.std.specs.Prelude.{◌≤◌};
 ghost use Rattle.dart_tree.specs.Depth as height;
 ghost use Rattle.dart_tree.specs.Tree as t;
 ghost use Rattle.dart_tree.specs.View as view;
@@ -10,12 +10,11 @@ ghost use Rattle.syntax_readers.specs.Statements as spec;
 ghost use Rattle.token_cursor.specs.Gives.{GivesHigh};
 ghost use Rattle.parse_nest.specs.Stages.{nodes_at};
 
-use crate::look::sees_variables;
 use dart_tree::expression::Expr;
 use dart_tree::parameter::Parameters;
 use dart_tree::statement::{Block, Stmt};
 use parse_nest::inside::{Inside, OpenExpr};
-use parse_parameter::look::settle;
+use parse_parameter::look::{sees_variables, settle};
 use parse_parameter::variable::{local_function, variables};
 use std::alloc::Global;
 use token_cursor::cursor::Cursor;

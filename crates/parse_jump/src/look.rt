@@ -1,13 +1,14 @@
 // Which tokens begin statements (ECMA-408, 17 Statements).
 ghost use Rattle.std.specs.Prelude.{◌≡◌};
 ghost use Rattle.grammar_laws.specs.Readers.{starts};
-ghost use Rattle.parse_jump.specs.Views.{case_first, declaring_first, variables_first, comes_in};
+ghost use Rattle.parse_jump.specs.Views.{case_first, comes_in};
 ghost use Rattle.syntax_readers.specs.Statements as spec;
 ghost use Rattle.token_codes.specs.Codes.{class_of};
 
 use dart_token::sign::Sign;
 use dart_token::word::Word;
 use parse_literal::look::{sees_body, sees_expr};
+use parse_parameter::look::sees_declaring;
 use parse_type::look::name_before;
 use token_cursor::cursor::Cursor;
 
@@ -31,24 +32,6 @@ pub fn sees_jump(cursor: &Cursor<'_>) -> bool
         || cursor.sees_word(Word::Break)
         || cursor.sees_word(Word::Continue)
         || cursor.sees_word(Word::Rethrow)
-}
-
-/// Whether the word of variables comes (ECMA-408, 8 Variables).
-pub fn sees_variables(cursor: &Cursor<'_>) -> bool
-    ensures { result ≡ starts class_of variables_first cursor.now }
-{
-    cursor.sees_word(Word::Var) || cursor.sees_word(Word::Final) || cursor.sees_word(Word::Const)
-}
-
-// Whether a word comes that begins a declaration.
-fn sees_declaring(cursor: &Cursor<'_>) -> bool
-    ensures { result ≡ starts class_of declaring_first cursor.now }
-{
-    cursor.sees_word(Word::Var)
-        || cursor.sees_word(Word::Final)
-        || cursor.sees_word(Word::Const)
-        || cursor.sees_word(Word::Void)
-        || cursor.sees_word(Word::Dynamic)
 }
 
 /// Whether a declaration among statements comes, if it is one (ECMA-408, 17 Statements).

@@ -1,11 +1,12 @@
 -- What contracts see of the parts of parameters, metadata, variables and functions, and their readers by the number of nodes
 -- above one another.
-use Rattle.std.specs.Prelude.{ℕ, suc, max, List, map, Option, Some, None}
+use Rattle.std.specs.Prelude.{ℕ, suc, max, List, [], ◌∷◌, map, Option, Some, None}
 use Rattle.std.specs.Global.{Vec}
 use Rattle.dart_base.specs.declared.place.Place.{Place}
 use Rattle.dart_token.specs.declared.sign.Sign.{Sign}
 use Rattle.dart_token.specs.declared.sign.Sign.TheVariants as s
 use Rattle.dart_token.specs.declared.token.Token.{Token}
+use Rattle.dart_token.specs.declared.word.Word.TheVariants as w
 use Rattle.dart_tree.specs.declared.expression.Arguments.{Arguments}
 use Rattle.dart_tree.specs.declared.expression.Value.{Value}
 use Rattle.dart_tree.specs.declared.identifier.Identifier.{Identifier}
@@ -27,13 +28,23 @@ use Rattle.syntax_readers.specs.Parameters as spec
 use Rattle.syntax_readers.specs.Primaries.{ExprReaders}
 use Rattle.syntax_readers.specs.Statements.{stage}
 use Rattle.syntax_readers.specs.Types.{result_before_name}
-use Rattle.token_codes.specs.Codes.{class_of, these}
+use Rattle.token_codes.specs.Codes.{class_of, these, word_code}
 use Rattle.token_codes.specs.Leaves.{sign, identifier, dot_name}
 use Rattle.parse_parameter.specs.declared.list.Optional.{Optional}
 use Rattle.parse_parameter.specs.declared.parameter.BeforeName.{BeforeName}
 use Rattle.parse_parameter.specs.declared.parameter.BeforeName.TheVariants as bn
 use Rattle.parse_parameter.specs.declared.parameter.ParameterHead.{ParameterHead}
 use Rattle.parse_nest.specs.Stages.{exprs_at}
+
+-- ---- what comes
+
+-- the words that begin variables
+abbrev pub variables_first : List ℕ
+variables_first = word_code w.Var ∷ word_code w.Final ∷ word_code w.Const ∷ []
+
+-- the words that begin a declaration
+abbrev pub declaring_first : List ℕ
+declaring_first = word_code w.Var ∷ word_code w.Final ∷ word_code w.Const ∷ word_code w.Void ∷ word_code w.Dynamic ∷ []
 
 -- ---- variables and functions
 

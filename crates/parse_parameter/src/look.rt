@@ -4,6 +4,7 @@ ghost use Rattle.dart_syntax.specs.Types.{is_no_accessor, kind_leaves_name, resu
 ghost use Rattle.dart_tree.specs.LeafTokens.{left_of, right_of};
 ghost use Rattle.dart_tree.specs.View as view;
 ghost use Rattle.grammar_laws.specs.Readers.{starts};
+ghost use Rattle.parse_parameter.specs.Views.{declaring_first, variables_first};
 ghost use Rattle.parse_type.specs.Views.{later};
 ghost use Rattle.syntax_readers.specs.Parameters.{parameter_first, optional_first, kind_comes};
 ghost use Rattle.token_codes.specs.Codes.{class_of};
@@ -23,6 +24,24 @@ pub fn settle<'a>(cursor: &mut Cursor<'a>, second: &Cursor<'a>, reads: bool)
     if reads || second.left() <= cursor.left() {
         *cursor = second.fork();
     }
+}
+
+/// Whether the word of variables comes (ECMA-408, 8 Variables).
+pub fn sees_variables(cursor: &Cursor<'_>) -> bool
+    ensures { result ≡ starts class_of variables_first cursor.now }
+{
+    cursor.sees_word(Word::Var) || cursor.sees_word(Word::Final) || cursor.sees_word(Word::Const)
+}
+
+/// Whether a word comes that begins variables or what a function answers with (ECMA-408, 8 Variables and 9 Functions).
+pub fn sees_declaring(cursor: &Cursor<'_>) -> bool
+    ensures { result ≡ starts class_of declaring_first cursor.now }
+{
+    cursor.sees_word(Word::Var)
+        || cursor.sees_word(Word::Final)
+        || cursor.sees_word(Word::Const)
+        || cursor.sees_word(Word::Void)
+        || cursor.sees_word(Word::Dynamic)
 }
 
 /// Whether a bracket comes that encloses optional parameters (ECMA-408, 9.2.2 Optional Formals).

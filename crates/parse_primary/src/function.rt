@@ -119,6 +119,7 @@ fn function_over<
 }
 
 /// Reads a function literal (ECMA-408, 16.10 Function Expressions).
+#[inline(never)]
 pub fn function<
     E: Fn(Global, &mut Cursor<'_>, usize, bool) -> Result<(OpenExpr, usize), ReadFault>,
     P: Fn(Global, &mut Cursor<'_>, usize) -> Result<(Parameters, usize), ReadFault>,

@@ -72,6 +72,7 @@ fn class(
 }
 
 // Strings as a primary.
+#[inline(never)]
 #[tactic(auto, unfolding(dart_tree::specs::Depth::primary_height))]
 fn text<
     E: Fn(Global, &mut Cursor<'_>, usize, bool) -> Result<(OpenExpr, usize), ReadFault>,
@@ -114,6 +115,7 @@ fn super_primary<
 }
 
 // The same, behind which no half of an operator is left.
+#[inline(never)]
 fn open_super<
     E: Fn(Global, &mut Cursor<'_>, usize, bool) -> Result<(OpenExpr, usize), ReadFault>,
     P: Fn(Global, &mut Cursor<'_>, usize) -> Result<(Parameters, usize), ReadFault>,
@@ -157,6 +159,7 @@ fn object<
 }
 
 // The same, behind which no half of an operator is left.
+#[inline(never)]
 fn closed_object<
     E: Fn(Global, &mut Cursor<'_>, usize, bool) -> Result<(OpenExpr, usize), ReadFault>,
     P: Fn(Global, &mut Cursor<'_>, usize) -> Result<(Parameters, usize), ReadFault>,
@@ -175,6 +178,7 @@ fn closed_object<
 }
 
 // A list or map literal, behind which no half of an operator is left.
+#[inline(never)]
 fn closed_collection<
     E: Fn(Global, &mut Cursor<'_>, usize, bool) -> Result<(OpenExpr, usize), ReadFault>,
     P: Fn(Global, &mut Cursor<'_>, usize) -> Result<(Parameters, usize), ReadFault>,
@@ -193,6 +197,7 @@ fn closed_collection<
 }
 
 // A primary that begins with no atom, string or `super`.
+#[inline(never)]
 fn other_primary<
     E: Fn(Global, &mut Cursor<'_>, usize, bool) -> Result<(OpenExpr, usize), ReadFault>,
     P: Fn(Global, &mut Cursor<'_>, usize) -> Result<(Parameters, usize), ReadFault>,

@@ -31,6 +31,7 @@ impl<L: Fn(&mut Cursor<'_>, usize) -> Result<(OpenOperand, usize), ReadFault>> L
     }
 
     // Operators of the row with their operands, one at least.
+    #[inline(never)]
     fn tails(&self, cursor: &mut Cursor<'_>, row: usize) -> Result<(OpenTails, usize), ReadFault>
         requires reads { ReadsRows self.now.depth (L.pre self.now.read) (L.post self.now.read) }
         ensures { GivesHigh view_tails open_tails_height self.now.depth (spec.tails_behind self.now.depth row cursor.old) result cursor.new }

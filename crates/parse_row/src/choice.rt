@@ -40,6 +40,7 @@ fn closed_without<
 }
 
 // Behind a condition, `?` and `:` with their expressions.
+#[inline(never)]
 #[tactic(auto, unfolding(crate::specs::Rows::choice_behind, dart_tree::specs::Depth::operand_height))]
 fn choice<
     E: Fn(Global, &mut Cursor<'_>, usize, bool) -> Result<(OpenExpr, usize), ReadFault>,

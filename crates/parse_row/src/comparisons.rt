@@ -120,6 +120,7 @@ impl<L: Fn(&mut Cursor<'_>, usize) -> Result<(OpenOperand, usize), ReadFault>> L
     }
 
     // The same, or the type that an operand is tested against or cast to.
+    #[inline(never)]
     #[tactic(auto, unfolding(crate::specs::Rows::compare_behind))]
     fn compared(
         &self,

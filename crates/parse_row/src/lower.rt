@@ -1,5 +1,4 @@
 // Operands of the rows with room for one node less.
-ghost use Rattle.std.specs.Prelude.{◌≤◌};
 ghost use Rattle.token_cursor.specs.Gives.{GivesHigh};
 ghost use Rattle.parse_unary.specs.Views.{open_operand, open_operand_height};
 ghost use Rattle.parse_row.specs.Lower.{ReadsRows};

@@ -52,6 +52,7 @@ impl<L: Fn(&mut Cursor<'_>, usize) -> Result<(OpenOperand, usize), ReadFault>> L
     }
 
     // Shifts with their operands, one at least.
+    #[inline(never)]
     fn shifts(
         &self,
         cursor: &mut Cursor<'_>,

@@ -1,11 +1,11 @@
 -- Statements by what begins them.
-use Rattle.std.proofs.Common.{◌≡◌, ℕ, Bool, true, false, if◌then◌else◌, List, Ok, refl, ap, ◌∙◌}
+use Rattle.std.proofs.Common.{◌≡◌, ℕ, Bool, true, false, List, Ok, refl, ap, ◌∙◌}
 use Rattle.dart_token.specs.declared.token.Token.{Token}
 use Rattle.dart_token.specs.declared.sign.Sign.TheVariants as s
 use Rattle.dart_token.specs.declared.word.Word.{Word}
 use Rattle.dart_token.specs.declared.word.Word.TheVariants as w
 use Rattle.dart_tree.specs.Tree as t
-use Rattle.grammar_laws.specs.Readers.{Reader, Outcome, and_then, mapped, starts, tried}
+use Rattle.grammar_laws.specs.Readers.{Outcome, and_then, mapped, starts, tried}
 use Rattle.syntax_readers.specs.Statements as spec
 use Rattle.token_codes.specs.Codes.{class_of, these, this_word}
 use Rattle.parse_nest.specs.Stages.{nodes_at, closed_at, block_at, stmt_at}

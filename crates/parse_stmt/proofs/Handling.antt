@@ -12,9 +12,7 @@ use Rattle.dart_syntax.specs.Statements.{append_parts, join_parts, to_finally, o
 use Rattle.grammar_laws.specs.Readers.{Reader, Outcome, and_then, mapped, both, prepend, option, starts}
 use Rattle.grammar_laws.proofs.Cuts.{gave}
 use Rattle.token_codes.specs.Codes.{class_of, this_word}
-use Rattle.syntax_readers.specs.Combinators.{many_where}
 use Rattle.syntax_readers.specs.Statements as spec
-use Rattle.syntax_readers.specs.Types.{type_reader}
 use Rattle.parse_loop.specs.Lists.{Growing, given}
 use Rattle.parse_jump.proofs.Loops.{ReadSoFar}
 use Rattle.parse_nest.specs.Stages.{block_at}

@@ -1,14 +1,13 @@
 -- Statements by the number of nodes above one another, and what one type's reader gives in them.
-use Rattle.std.proofs.Common.{◌≡◌, ℕ, zero, suc, ◌-◌, ◌+◌, ◌<◌, List, Result, Err, refl, sym, ap, ◌∙◌, subst, arith}
+use Rattle.std.proofs.Common.{◌≡◌, ℕ, zero, suc, ◌-◌, ◌<◌, List, Result, Err, refl, sym, ap, ◌∙◌, subst, arith}
 use Rattle.dart_token.specs.declared.token.Token.{Token}
 use Rattle.dart_token.specs.declared.word.Word.TheVariants as w
 use Rattle.dart_tree.specs.Tree as t
 use Rattle.dart_tree.specs.Types as y
 use Rattle.dart_syntax.specs.Statements.{on_parts}
-use Rattle.grammar_laws.specs.Readers.{Reader, Outcome, mapped, option, by_first, tried}
+use Rattle.grammar_laws.specs.Readers.{Reader, Outcome, option, by_first, tried}
 use Rattle.syntax_readers.specs.Combinators.{◌~◌, made₂, made₃, many_where}
 use Rattle.syntax_readers.specs.Statements as spec
-use Rattle.syntax_readers.specs.Types.{type_reader}
 use Rattle.token_codes.specs.Codes.{class_of, this_word}
 use Rattle.token_codes.specs.Leaves.{word}
 use Rattle.token_cursor.specs.declared.error.ReadFault.{ReadFault}

@@ -1,6 +1,5 @@
 -- The updates of a `for`: none, or some.
-use Rattle.std.proofs.Common.{◌≡◌, true, false, List, Ok, Option, sym, subst}
-use Rattle.dart_base.specs.declared.place.Place.{Place}
+use Rattle.std.proofs.Common.{◌≡◌, true, false, List, Ok, sym, subst}
 use Rattle.dart_token.specs.declared.token.Token.{Token}
 use Rattle.dart_token.specs.declared.sign.Sign.TheVariants as s
 use Rattle.dart_tree.specs.Tree as t

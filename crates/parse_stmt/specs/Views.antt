@@ -1,5 +1,5 @@
 -- What contracts see of the parts of statements that hold others, and their readers by the number of nodes above one another.
-use Rattle.std.specs.Prelude.{ℕ, max, List, Option, None, Some}
+use Rattle.std.specs.Prelude.{ℕ, max, List, None}
 use Rattle.std.specs.Global.{Vec}
 use Rattle.dart_base.specs.declared.place.Place.{Place}
 use Rattle.dart_syntax.specs.Expressions.{plain_items}

@@ -1,5 +1,5 @@
 // Statements that handle exceptions (ECMA-408, 17.11 Try).
-ghost use Rattle.std.specs.Prelude.{◌≡◌, ◌≤◌, ◌<◌, ◌+◌};
+ghost use Rattle.std.specs.Prelude.{◌≤◌, ◌<◌, ◌+◌};
 ghost use Rattle.dart_tree.specs.Depth as height;
 ghost use Rattle.dart_tree.specs.View as view;
 ghost use Rattle.parse_nest.specs.Nests.{NestsBlock};

@@ -1,5 +1,5 @@
 // Loops (ECMA-408, 17.6 For and 17.7 While).
-ghost use Rattle.std.specs.Prelude.{◌≡◌, ◌≤◌, ◌<◌, ◌+◌};
+ghost use Rattle.std.specs.Prelude.{◌≤◌, ◌<◌, ◌+◌};
 ghost use Rattle.dart_token.specs.declared.sign.Sign.TheVariants as s;
 ghost use Rattle.dart_tree.specs.Depth as height;
 ghost use Rattle.dart_tree.specs.Tree as t;

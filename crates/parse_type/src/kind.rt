@@ -1,5 +1,4 @@
 // Results and kinds of variables, and what stands before a name.
-ghost use Rattle.std.specs.Prelude.{◌≡◌};
 ghost use Rattle.dart_tree.specs.Depth as height;
 ghost use Rattle.dart_tree.specs.View as view;
 ghost use Rattle.token_cursor.specs.Gives.{GivesHigh};

@@ -1,5 +1,5 @@
 -- Which trees of the code may be assigned, and which selectors stand behind them.
-use Rattle.std.proofs.Common.{◌≡◌, ℕ, ◌-◌, ◌<◌, ◌≤◌, length, get_or, Bool, true, false, ◌||◌, ◌&&◌, List, [], ◌∷◌, ◌++◌, Option, Some, None, refl, ap, ap₂, ◌∙◌, arith}
+use Rattle.std.proofs.Common.{◌≡◌, ℕ, ◌-◌, ◌<◌, ◌≤◌, length, get_or, Bool, true, false, ◌||◌, ◌&&◌, List, [], ◌∷◌, Option, Some, None, refl, ap, ap₂, ◌∙◌, arith}
 use Rattle.dart_base.specs.declared.place.Place.{Place}
 use Rattle.dart_token.specs.declared.sign.Sign.TheVariants as s
 use Rattle.dart_token.specs.declared.token.Token.{Token}
@@ -15,7 +15,7 @@ use Rattle.grammar_laws.specs.Codes.{given}
 use Rattle.grammar_laws.specs.Depth.{is_below}
 use Rattle.grammar_laws.specs.Readers.{starts}
 use Rattle.grammar_laws.proofs.Codes.{not_true}
-use Rattle.grammar_laws.proofs.Depth.{below_is, is_below_by}
+use Rattle.grammar_laws.proofs.Depth.{below_is}
 use Rattle.parse_type.proofs.Looking.{starts_either}
 use Rattle.syntax_readers.specs.Levels.{selects, assigns as operand_assigns}
 use Rattle.token_codes.specs.Codes.{class_of, sign_code, these, sign_codes}
@@ -67,13 +67,7 @@ none_seen [] = refl
 none_seen (t ∷ ts) = refl
 
 -- no selector behind the half of an operator, and none where there is no room for a node
-pub half_selects : (n : ℕ) (x : t.Primary) (half : Place) (ts : List Token) → starts class_of (selects n (x, Some half)) ts ≡ false
-half_selects n x half ts = none_seen ts
-
 pub high_selects : (n : ℕ) (x : t.Primary) (half : Option Place) (ts : List Token) → n ≤ height.primary_height x → starts class_of (selects n (x, half)) ts ≡ false
 high_selects n x (Some half) ts high = none_seen ts
 high_selects n x None ts high =
     rw (not_true (is_below height.primary_height n x) (λ h. let b = below_is height.primary_height n x h in omega arith)) (none_seen ts)
-
-pub low_selects : (n : ℕ) (x : t.Primary) (ts : List Token) → height.primary_height x < n → starts class_of (selects n (x, None)) ts ≡ starts class_of (left_to_selectors x) ts
-low_selects n x ts low = rw (is_below_by height.primary_height n x low) refl

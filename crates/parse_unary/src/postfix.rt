@@ -168,6 +168,7 @@ fn sees_step(cursor: &Cursor<'_>, depth: usize, parts: &Selected, tall: usize) -
 }
 
 // The operand with `++` or `--` behind it.
+#[inline(never)]
 fn stepped(
     alloc: Global,
     depth: usize,

@@ -48,6 +48,7 @@ pub fn target<
 }
 
 // `++` or `--` before what may be assigned.
+#[inline(never)]
 #[tactic(auto, unfolding(syntax_readers::specs::Levels::prefixed, dart_tree::specs::Depth::operand_height))]
 fn step_before<
     E: Fn(Global, &mut Cursor<'_>, usize, bool) -> Result<(OpenExpr, usize), ReadFault>,
@@ -73,6 +74,7 @@ fn step_before<
 
 // `-` or `~` before a unary expression.
 #[cycle(unaries)]
+#[inline(never)]
 #[tactic(auto, unfolding(syntax_readers::specs::Levels::prefixed, dart_tree::specs::Depth::operand_height))]
 fn negated<
     E: Fn(Global, &mut Cursor<'_>, usize, bool) -> Result<(OpenExpr, usize), ReadFault>,
@@ -124,6 +126,7 @@ fn whole<
 
 // `!` before a unary expression.
 #[cycle(unaries)]
+#[inline(never)]
 #[tactic(auto, unfolding(syntax_readers::specs::Levels::prefixed, dart_tree::specs::Depth::operand_height))]
 fn inverted<
     E: Fn(Global, &mut Cursor<'_>, usize, bool) -> Result<(OpenExpr, usize), ReadFault>,

@@ -15,9 +15,9 @@ use Rattle.dart_tree.specs.declared.identifier.Identifier.{Identifier}
 use Rattle.dart_tree.specs.declared.identifier.Identifier.TheVariants as i
 use Rattle.dart_tree.specs.Types.{TypeNode, ResultType}
 use Rattle.dart_tree.specs.Tree as t
-use Rattle.dart_tree.specs.Tree.{Arguments, Block, Body, Function, Parameters, Variables}
+use Rattle.dart_tree.specs.Tree.{Block, Body, Function, Parameters}
 use Rattle.dart_tree.specs.Unit as d
-use Rattle.dart_tree.specs.Unit.{Bound, TypeClause, TypeParameters, Superclass, Alias, AccessorKind, Accessor, OperatorMember, InitKind, Initializers, Constructor, MemberKind, Member, ClassKind, Class, Enum, DeclKind, Decl}
+use Rattle.dart_tree.specs.Unit.{Bound, TypeClause, TypeParameters, Superclass, Alias, AccessorKind, Accessor, OperatorMember, InitKind, Initializers, Constructor, MemberKind, Member, ClassKind, Class, Enum, DeclKind}
 use Rattle.grammar_laws.specs.Readers.{Reader, nothing, always, mapped, checked, both_by, starts, starts_two, option, many, separated, trailed, by_first, by_two, tried, sought}
 use Rattle.grammar_laws.specs.Halves.{strict}
 use Rattle.dart_syntax.specs.Types.{result_leaves_name}

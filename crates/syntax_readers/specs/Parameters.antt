@@ -13,7 +13,7 @@ use Rattle.dart_tree.specs.LeafTokens.{left_of, right_of}
 use Rattle.dart_tree.specs.declared.parameter.ThisDot.{ThisDot}
 use Rattle.dart_tree.specs.Types.{TypeNode, ResultType, VariableKind, no_kind, var_kind, final_kind, typed_kind, void_result, typed_result}
 use Rattle.dart_tree.specs.Tree as t
-use Rattle.dart_tree.specs.Tree.{Expr, Value, ParameterKind, Body, Parameters, Variables, Function, Block, ParameterList, Metadata}
+use Rattle.dart_tree.specs.Tree.{Expr, Value, ParameterKind, Body, Parameters, Variables, Function, ParameterList, Metadata}
 use Rattle.grammar_laws.specs.Readers.{Reader, always, mapped, checked, starts, option, many, continued, continued_by, trailed, separated, by_first}
 use Rattle.grammar_laws.specs.Halves.{strict}
 use Rattle.dart_syntax.specs.Types.{kind_leaves_name, result_leaves_name}

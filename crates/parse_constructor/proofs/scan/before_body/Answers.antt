@@ -1,4 +1,4 @@
-use Rattle.std.proofs.Common.{◌≡◌, ◌+◌, ◌<◌, ◌∙◌, ap, ap₂, sym, drop, length, arith}
+use Rattle.std.proofs.Common.{◌≡◌, ◌<◌, ap, ap₂, sym, drop, length, arith}
 use Rattle.syntax_readers.specs.Declarations.{before_body}
 use Rattle.parse_constructor.specs.Views.{open_after}
 use Rattle.parse_constructor.proofs.Scanning.{here, further, none_left, one_more_open, shorter}

@@ -1,4 +1,4 @@
-use Rattle.std.proofs.Common.{◌-◌, ◌∙◌, [], ◌∷◌, sym, arith}
+use Rattle.std.proofs.Common.{◌-◌, ◌∙◌, sym, arith}
 use Rattle.std.proofs.lemmas.Result.{err_from_is_err_and}
 use Rattle.token_cursor.proofs.Passing.{passes}
 use Rattle.parse_expr.specs.Views.{open_cascade, open_cascade_height, open_cascades, open_cascades_height, cascades_reader}

@@ -1,4 +1,4 @@
-use Rattle.std.proofs.Common.{◌≡◌, ◌∙◌, ap, sym, not}
+use Rattle.std.proofs.Common.{◌∙◌, ap, sym, not}
 use Rattle.syntax_readers.specs.Combinators.{behind_brackets}
 use Rattle.syntax_readers.specs.Primaries.{body_comes}
 use Rattle.parse_jump.proofs.Looking.{calls_not, calls_if}

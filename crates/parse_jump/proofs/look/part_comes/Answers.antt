@@ -1,4 +1,4 @@
-use Rattle.std.proofs.Common.{◌≡◌, ◌≤◌, ◌-◌, ◌∙◌, true, ap, sym, drop, length, arith}
+use Rattle.std.proofs.Common.{◌≡◌, ◌-◌, ◌∙◌, true, ap, sym, drop, length, arith}
 use Rattle.syntax_readers.specs.Statements.{label_comes, part_comes}
 use Rattle.parse_jump.proofs.Looking.{case_now, none_now, label_now, label_shortens, none_left}
 use Rattle.parse_jump.proofs.look.part_comes.Goals as goal
