@@ -1,3 +1,4 @@
 pub mod LanguageLaws
 pub mod Outcomes
 pub mod SubsetLaws
+pub mod UnitLaws

@@ -8,12 +8,15 @@ use Rattle.dart_tool.specs.declared.status.Status.{Status}
 use Rattle.dart_tool.specs.declared.status.Status.TheVariants.{Done, Usage, Refused, Limit, ReadFault, WriteFault, Memory}
 use Rattle.dart_tool.specs.declared.status.Refusal.{Refusal}
 use Rattle.dart_tool.specs.declared.status.Refusal.TheVariants.{NotFound, NotBuilt}
-use Rattle.dart_tool.specs.Language.{RefusedFor, Runs, GivesRun, DifferInAnnotationsAlone}
-use Rattle.dart_tool.specs.Outcome.{FileGives, CommandGives, IsOutcome, usage_outcome, transcript, refused}
+use Rattle.dart_tool.specs.declared.words.Verb.{Verb}
+use Rattle.dart_tool.specs.declared.words.Verb.TheVariants as v
+use Rattle.dart_tool.specs.Language.{IsNoUnitFor, RefusedFor, Runs, GivesRun, DifferInAnnotationsAlone}
+use Rattle.dart_tool.specs.Outcome.{FileGives, EraseGives, VerbGives, CommandGives, IsOutcome, usage_outcome, transcript, refused, erased_outcome}
 use Rattle.dart_tool.specs.Run.{Run}
 use Rattle.dart_tool.specs.Tool.{Answers, CutShort, Delivers}
-use Rattle.dart_tool.specs.Words.{Command, Command.run_file, reading}
+use Rattle.dart_tool.specs.Words.{Command, reading}
 use Rattle.dart_tool.proofs.LanguageLaws.{one_refusal, one_run, run_unrefused, file_unread}
+use Rattle.dart_tool.proofs.UnitLaws.{one_reason_for, one_erased, erased_unrefused, erased_or_refused}
 
 pub one_file_outcome : (name : List ℕ) (content : Option (List ℕ)) (a b : Outcome) → FileGives name content a → FileGives name content b → a ≡ b
 one_file_outcome name None a b x y = x ∙ sym y
@@ -28,14 +31,38 @@ one_file_outcome name (Some text) a b (inr (inr (none, no_run, e))) (inr (inl (r
 one_file_outcome name (Some text) a b (inr (inr (none, no_run, e))) (inr (inr (nothing, nowhere, f))) = e ∙ sym f
 
 -- a file whose text is refused for no reason, and comes to no run
-pub not_built : {E : Type 0} (name text : List ℕ) (content : Option (List ℕ)) → content ≡ Some text → ((why : Refusal) → RefusedFor text why → ⊥) → GivesRun text None → (result : Result Outcome E) → IfOk result (λ out. out ≡ refused NotBuilt name) → IfOk result (λ out. FileGives name content out)
-not_built name text content is no_reason no_run (Err error) h = tt
-not_built name text content is no_reason no_run (Ok out) h =
-    subst (λ (c : Option (List ℕ)). FileGives name c out) (sym is) (inr (inr (no_reason, no_run, h)))
+pub not_built : {E : Type 0} (name text : List ℕ) → ((why : Refusal) → RefusedFor text why → ⊥) → GivesRun text None → (result : Result Outcome E) → IfOk result (λ out. out ≡ refused NotBuilt name) → IfOk result (λ out. FileGives name (Some text) out)
+not_built name text no_reason no_run (Err error) h = tt
+not_built name text no_reason no_run (Ok out) h = inr (inr (no_reason, no_run, h))
+
+-- a file whose text is no unit
+pub erase_refused : {E : Type 0} (name text : List ℕ) (why : Refusal) → IsNoUnitFor text why → (result : Result Outcome E) → IfOk result (λ out. out ≡ refused why name) → IfOk result (λ out. EraseGives name (Some text) out)
+erase_refused name text why no_unit (Err error) h = tt
+erase_refused name text why no_unit (Ok out) h = inl (why, no_unit, h)
+
+one_erase_outcome : (name : List ℕ) (content : Option (List ℕ)) (a b : Outcome) → EraseGives name content a → EraseGives name content b → a ≡ b
+one_erase_outcome name None a b x y = x ∙ sym y
+one_erase_outcome name (Some text) a b (inl (why, is, e)) (inl (other, so, f)) = e ∙ ap (λ w. refused w name) (one_reason_for text why other is so) ∙ sym f
+one_erase_outcome name (Some text) a b (inl (why, is, e)) (inr (bytes, erases, f)) = absurd (erased_unrefused text bytes why erases is)
+one_erase_outcome name (Some text) a b (inr (bytes, erases, e)) (inl (why, is, f)) = absurd (erased_unrefused text bytes why erases is)
+one_erase_outcome name (Some text) a b (inr (bytes, erases, e)) (inr (others, also, f)) =
+    e ∙ ap erased_outcome (one_erased text bytes others erases also) ∙ sym f
+
+-- what a command gives for the text of a file that is there
+pub verb_gives : {E : Type 0} (verb one : Verb) (name : List ℕ) (content : Option (List ℕ)) (text read : List ℕ) → verb ≡ one → content ≡ Some text → read ≡ text → (result : Result Outcome E) → IfOk result (λ out. VerbGives one name (Some read) out) → IfOk result (λ out. VerbGives verb name content out)
+verb_gives verb one name content text read e f g (Err error) h = tt
+verb_gives verb one name content text read e f g (Ok out) h =
+    subst (λ (x : Verb). VerbGives x name content out) (sym e)
+    (subst (λ (c : Option (List ℕ)). VerbGives one name c out) (sym f)
+    (subst (λ (r : List ℕ). VerbGives one name (Some r) out) g h))
+
+one_verb_outcome : (verb : Verb) (name : List ℕ) (content : Option (List ℕ)) (a b : Outcome) → VerbGives verb name content a → VerbGives verb name content b → a ≡ b
+one_verb_outcome v.Run name content a b x y = one_file_outcome name content a b x y
+one_verb_outcome v.Erase name content a b x y = one_erase_outcome name content a b x y
 
 one_command_outcome : (command : Option Command) (files : Files) (a b : Outcome) → CommandGives command files a → CommandGives command files b → a ≡ b
 one_command_outcome None files a b x y = x ∙ sym y
-one_command_outcome (Some (run_file name)) files a b x y = one_file_outcome name (file_of files name) a b x y
+one_command_outcome (Some command) files a b x y = one_verb_outcome command.verb command.file (file_of files command.file) a b x y
 
 -- the words and the files have at most one outcome
 pub one_outcome : (words : List (List ℕ)) (files : Files) (a b : Outcome) → IsOutcome words files a → IsOutcome words files b → a ≡ b
@@ -48,9 +75,19 @@ some_file_outcome name (Some text) none =
     let no_run : (run : Run) → Runs text run → ⊥ = λ run runs. none (transcript run) (inr (inl (run, runs, refl))) in
     none (refused NotBuilt name) (inr (inr (no_reason, no_run, refl)))
 
+some_erase_outcome : (name : List ℕ) (content : Option (List ℕ)) → ((out : Outcome) → EraseGives name content out → ⊥) → ⊥
+some_erase_outcome name None none = none (refused NotFound name) refl
+some_erase_outcome name (Some text) none = erased_or_refused text
+    (λ why is. none (refused why name) (inl (why, is, refl)))
+    (λ bytes erases. none (erased_outcome bytes) (inr (bytes, erases, refl)))
+
+some_verb_outcome : (verb : Verb) (name : List ℕ) (content : Option (List ℕ)) → ((out : Outcome) → VerbGives verb name content out → ⊥) → ⊥
+some_verb_outcome v.Run name content none = some_file_outcome name content none
+some_verb_outcome v.Erase name content none = some_erase_outcome name content none
+
 some_command_outcome : (command : Option Command) (files : Files) → ((out : Outcome) → CommandGives command files out → ⊥) → ⊥
 some_command_outcome None files none = none usage_outcome refl
-some_command_outcome (Some (run_file name)) files none = some_file_outcome name (file_of files name) none
+some_command_outcome (Some command) files none = some_verb_outcome command.verb command.file (file_of files command.file) none
 
 -- the words and the files aren't without an outcome
 pub some_outcome : (words : List (List ℕ)) (files : Files) → ((out : Outcome) → IsOutcome words files out → ⊥) → ⊥
@@ -70,10 +107,10 @@ answers_from_delivered IsDue due Refused before after is one h = (due, is, h.0, 
 answers_from_delivered IsDue due Limit before after is one h = (due, is, h.0, h.1)
 
 -- a read, and then the delivery of the outcome of what was read
-pub read_answers : (told : Option Files) (name : List ℕ) (content : Option (List ℕ)) (due : Outcome) (status : Status) (before after : Option (List ℕ)) → IfSome told (λ files. content ≡ file_of files name) → FileGives name content due → Delivers due status before after → IfSome told (λ files. Answers (FileGives name (file_of files name)) status before after)
-read_answers None name content due status before after is gives h = tt
-read_answers (Some files) name content due status before after is gives h =
-    subst (λ (c : Option (List ℕ)). Answers (FileGives name c) status before after) is (answers_from_delivered (FileGives name content) due status before after gives (λ out other. one_file_outcome name content out due other gives) h)
+pub read_answers : (told : Option Files) (verb : Verb) (name : List ℕ) (content : Option (List ℕ)) (due : Outcome) (status : Status) (before after : Option (List ℕ)) → IfSome told (λ files. content ≡ file_of files name) → VerbGives verb name content due → Delivers due status before after → IfSome told (λ files. Answers (CommandGives (Some (record { verb = verb; file = name })) files) status before after)
+read_answers None verb name content due status before after is gives h = tt
+read_answers (Some files) verb name content due status before after is gives h =
+    subst (λ (c : Option (List ℕ)). Answers (VerbGives verb name c) status before after) is (answers_from_delivered (VerbGives verb name content) due status before after gives (λ out other. one_verb_outcome verb name content out due other gives) h)
 
 -- what the words ask is what their command asks
 pub words_answer : (told : Option Files) (words : List (List ℕ)) (command : Option Command) (status : Status) (before after : Option (List ℕ)) → reading words ≡ command → IfSome told (λ files. Answers (CommandGives command files) status before after) → IfSome told (λ files. Answers (IsOutcome words files) status before after)
@@ -86,7 +123,7 @@ usage_answers None status before after h = tt
 usage_answers (Some files) status before after h = answers_from_delivered (CommandGives None files) usage_outcome status before after refl (λ out due. due) h
 
 -- type annotations in a file that is run aren't read
-pub outcome_unread : (words : List (List ℕ)) (files others : Files) (name text other : List ℕ) (out : Outcome) → reading words ≡ Some (run_file name) → file_of files name ≡ Some text → file_of others name ≡ Some other → DifferInAnnotationsAlone text other → (IsOutcome words files out) ↔ (IsOutcome words others out)
+pub outcome_unread : (words : List (List ℕ)) (files others : Files) (name text other : List ℕ) (out : Outcome) → reading words ≡ Some (record { verb = v.Run; file = name }) → file_of files name ≡ Some text → file_of others name ≡ Some other → DifferInAnnotationsAlone text other → (IsOutcome words files out) ↔ (IsOutcome words others out)
 outcome_unread words files others name text other out is here there d =
     let gives : (FileGives name (Some text) out) ↔ (FileGives name (Some other) out) = file_unread name text other out d in
     let from : (FileGives name (file_of files name) out) ↔ (FileGives name (file_of others name) out) = rw (here, there) gives in

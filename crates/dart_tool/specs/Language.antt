@@ -1,22 +1,38 @@
 -- What the tool knows of the language: for which reason a text is refused, and to what run it comes. Outcomes and
 -- laws speak of these words alone, and these words alone speak of the subset that is built.
-use Rattle.std.specs.Prelude.{◌≡◌, ℕ, List, map, Option, None, Some}
+use Rattle.std.specs.Prelude.{◌≡◌, ◌⊎◌, ℕ, List, map, Option, None, Some}
+use Rattle.dart_front.specs.Texts.{IsNoUnit}
 use Rattle.dart_lex.specs.declared.lexer.LexFault.{LexFault}
 use Rattle.dart_lex.specs.Spelling.{HasReason}
+use Rattle.parse_unit.specs.declared.fault.ParseFault.{ParseFault}
 use Rattle.dart_tool.specs.declared.language.Stop.{Stop}
 use Rattle.dart_tool.specs.declared.language.Stop.TheVariants.{Refused, Memory}
 use Rattle.dart_tool.specs.declared.run.Printed.{Printed}
 use Rattle.dart_tool.specs.declared.status.Refusal.{Refusal}
 use Rattle.dart_tool.specs.declared.subset.program.Statement.{Statement}
 use Rattle.dart_tool.specs.Run.{Run, IsPrintOf}
-use Rattle.dart_tool.specs.Status.{lexical_refusal}
+use Rattle.dart_tool.specs.Status.{lexical_refusal, syntax_refusal}
 use Rattle.dart_tool.specs.Subset.Model.{run_of}
-use Rattle.dart_tool.specs.Subset.Program.{IsSource, SpellsProgram, without_annotation}
+use Rattle.dart_tool.specs.Subset.Program.{IsSource, SpellsProgram, SpellsNoProgram, without_annotation}
 
--- The text is refused for this reason, which is its lexical one.
-abbrev pub RefusedFor : List ℕ → Refusal → Type 0
-RefusedFor text why =
+-- The text spells no tokens, for this reason.
+abbrev pub LexisRefuses : List ℕ → Refusal → Type 0
+LexisRefuses text why =
     (fault : LexFault) × HasReason 0 text fault × (lexical_refusal fault ≡ Some why)
+
+-- The text spells tokens that are no unit, for this reason.
+abbrev pub SyntaxRefuses : List ℕ → Refusal → Type 0
+SyntaxRefuses text why =
+    (fault : ParseFault) × IsNoUnit text fault × (syntax_refusal fault ≡ Some why)
+
+-- The text is no unit, for this reason.
+abbrev pub IsNoUnitFor : List ℕ → Refusal → Type 0
+IsNoUnitFor text why = LexisRefuses text why ⊎ SyntaxRefuses text why
+
+-- The text is not run, for this reason: the one for which it is no unit. A text that spells a program of the subset is
+-- refused for its lexical reason alone: the subset is a part of the grammar, and this says so where it isn't proved.
+abbrev pub RefusedFor : List ℕ → Refusal → Type 0
+RefusedFor text why = LexisRefuses text why ⊎ (SyntaxRefuses text why × SpellsNoProgram text)
 
 -- The text is a program, and this is its run.
 abbrev pub Runs : List ℕ → Run → Type 0
@@ -33,10 +49,10 @@ abbrev pub GivesRun : List ℕ → Option Printed → Type 0
 GivesRun text None = (run : Run) → Runs text run → ⊥
 GivesRun text (Some printed) = (run : Run) × Runs text run × IsPrintOf run printed
 
--- Why a text isn't run: it is refused for this reason, or memory ran out.
-abbrev pub StopsFor : List ℕ → Stop → Type 0
-StopsFor text (Refused why) = RefusedFor text why
-StopsFor text Memory = Unit {0}
+-- Why nothing is made of a text: it is refused for one of these reasons, or memory ran out.
+abbrev pub Stops : (Refusal → Type 0) → Stop → Type 0
+Stops IsReason (Refused why) = IsReason why
+Stops IsReason Memory = Unit {0}
 
 abbrev pub stop_for : Option Refusal → Stop
 stop_for (Some why) = Refused why

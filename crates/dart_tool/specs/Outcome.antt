@@ -5,17 +5,20 @@ use Rattle.std.specs.Str.{byte}
 use Rattle.dart_base.specs.declared.place.Place.{Place}
 use Rattle.dart_base.specs.Feature.{feature_text}
 use Rattle.dart_edge.specs.Files.{Files, file_of}
+use Rattle.dart_front.specs.Texts.{ErasesTo}
 use Rattle.dart_tool.specs.declared.outcome.Outcome.{Outcome}
 use Rattle.dart_tool.specs.declared.run.Ending.{Ending}
 use Rattle.dart_tool.specs.declared.run.Ending.TheVariants.{Returned, IntegerLimit}
 use Rattle.dart_tool.specs.declared.status.Status.{Status}
 use Rattle.dart_tool.specs.declared.status.Status.TheVariants.{Done, Usage, Refused, Limit, ReadFault, WriteFault, Memory}
 use Rattle.dart_tool.specs.declared.status.Refusal.{Refusal}
-use Rattle.dart_tool.specs.declared.status.Refusal.TheVariants.{NotFound, NotUtf8, BadToken, LeftOut, IntegerTooLarge, NotBuilt}
-use Rattle.dart_tool.specs.Language.{RefusedFor, Runs}
+use Rattle.dart_tool.specs.declared.status.Refusal.TheVariants.{NotFound, NotUtf8, BadToken, LeftOut, IntegerTooLarge, Syntax, TooDeep, NotBuilt}
+use Rattle.dart_tool.specs.declared.words.Verb.{Verb}
+use Rattle.dart_tool.specs.declared.words.Verb.TheVariants as v
+use Rattle.dart_tool.specs.Language.{IsNoUnitFor, RefusedFor, Runs}
 use Rattle.dart_tool.specs.Run.{Run, with_end, printed_bytes}
 use Rattle.dart_tool.specs.Status.{refusal_text}
-use Rattle.dart_tool.specs.Words.{Command, Command.run_file, reading}
+use Rattle.dart_tool.specs.Words.{Command, reading}
 
 abbrev pub usage_line : List ℕ
 usage_line =
@@ -42,6 +45,8 @@ refusal_details (NotUtf8 offset) name = shown name ++ byte " " ∷ decimal offse
 refusal_details (BadToken place) name = shown_place place name
 refusal_details (LeftOut place feature) name = shown_place place name ++ byte " " ∷ feature_text feature
 refusal_details (IntegerTooLarge place) name = shown_place place name
+refusal_details (Syntax place) name = shown_place place name
+refusal_details (TooDeep place) name = shown_place place name
 refusal_details why name = shown name
 
 abbrev pub refused : Refusal → List ℕ → Outcome
@@ -78,10 +83,28 @@ FileGives name (Some text) out =
     (((why : Refusal) → RefusedFor text why → ⊥) × ((run : Run) → Runs text run → ⊥) ×
     (out ≡ refused NotBuilt name)))
 
+-- the text of a unit without annotations
+abbrev pub erased_outcome : List ℕ → Outcome
+erased_outcome bytes = record { status = Done; bytes = bytes }
+
+-- What `erase` gives for a file that isn't there, or for one with this text: the refusal for the reason why the text is no
+-- unit, or the text of its unit without annotations.
+abbrev pub EraseGives : List ℕ → Option (List ℕ) → Outcome → Type 0
+EraseGives name None out = out ≡ refused NotFound name
+EraseGives name (Some text) out =
+    ((why : Refusal) × IsNoUnitFor text why × (out ≡ refused why name)) ⊎
+    ((bytes : List ℕ) × ErasesTo text bytes × (out ≡ erased_outcome bytes))
+
+-- What a command gives for its file.
+abbrev pub VerbGives : Verb → List ℕ → Option (List ℕ) → Outcome → Type 0
+VerbGives v.Run name content out = FileGives name content out
+VerbGives v.Erase name content out = EraseGives name content out
+
 -- What a command gives.
 abbrev pub CommandGives : Option Command → Files → Outcome → Type 0
 CommandGives None files out = out ≡ usage_outcome
-CommandGives (Some (run_file name)) files out = FileGives name (file_of files name) out
+CommandGives (Some command) files out =
+    VerbGives command.verb command.file (file_of files command.file) out
 
 -- The outcome of the words and the files.
 abbrev pub IsOutcome : List (List ℕ) → Files → Outcome → Type 0

@@ -2,10 +2,14 @@
 use Rattle.std.specs.Prelude.{ℕ, List, codes, Option, None, Some}
 use Rattle.dart_lex.specs.declared.lexer.LexFault.{LexFault}
 use Rattle.dart_lex.specs.declared.lexer.LexFault.TheVariants as e
+use Rattle.dart_front.specs.declared.fault.TextFault.{TextFault}
+use Rattle.dart_front.specs.declared.fault.TextFault.TheVariants as t
+use Rattle.parse_unit.specs.declared.fault.ParseFault.{ParseFault}
+use Rattle.parse_unit.specs.declared.fault.ParseFault.TheVariants as p
 use Rattle.dart_tool.specs.declared.status.Status.{Status}
 use Rattle.dart_tool.specs.declared.status.Status.TheVariants.{Done, Usage, Refused, Limit, ReadFault, WriteFault, Memory}
 use Rattle.dart_tool.specs.declared.status.Refusal.{Refusal}
-use Rattle.dart_tool.specs.declared.status.Refusal.TheVariants.{NotFound, NotUtf8, BadToken, LeftOut, IntegerTooLarge, TooLarge, NotBuilt}
+use Rattle.dart_tool.specs.declared.status.Refusal.TheVariants.{NotFound, NotUtf8, BadToken, LeftOut, IntegerTooLarge, Syntax, TooDeep, TooLarge, NotBuilt}
 
 -- the number with which the process ends
 abbrev pub status_number : Status → ℕ
@@ -25,6 +29,8 @@ refusal_text (NotUtf8 offset) = codes "NotUtf8"
 refusal_text (BadToken place) = codes "BadToken"
 refusal_text (LeftOut place feature) = codes "LeftOut"
 refusal_text (IntegerTooLarge place) = codes "IntegerTooLarge"
+refusal_text (Syntax place) = codes "Syntax"
+refusal_text (TooDeep place) = codes "TooDeep"
 refusal_text NotBuilt = codes "NotBuilt"
 
 -- the refusal for a lexical reason; being out of memory is none
@@ -35,3 +41,16 @@ lexical_refusal (e.BadToken place) = Some (BadToken place)
 lexical_refusal (e.LeftOut place feature) = Some (LeftOut place feature)
 lexical_refusal (e.IntegerTooLarge place) = Some (IntegerTooLarge place)
 lexical_refusal e.Memory = None
+
+-- the refusal for the parser's reason; being out of memory is none
+abbrev pub syntax_refusal : ParseFault → Option Refusal
+syntax_refusal (p.LeftOut place feature) = Some (LeftOut place feature)
+syntax_refusal (p.Syntax place) = Some (Syntax place)
+syntax_refusal (p.TooDeep place) = Some (TooDeep place)
+syntax_refusal p.Memory = None
+
+-- the refusal of a text that is no unit; being out of memory is none
+abbrev pub text_refusal : TextFault → Option Refusal
+text_refusal (t.Lexis fault) = lexical_refusal fault
+text_refusal (t.Syntax fault) = syntax_refusal fault
+text_refusal t.Memory = None

@@ -8,7 +8,8 @@ ghost use Rattle.dart_tool.specs.Language.{DifferInAnnotationsAlone, Runs};
 ghost use Rattle.dart_tool.specs.Laws.{AnswersSafely};
 ghost use Rattle.dart_tool.specs.Outcome.{FileGives, IsOutcome};
 ghost use Rattle.dart_tool.specs.Run.{Run};
-ghost use Rattle.dart_tool.specs.Words.{Command.run_file, reading};
+ghost use Rattle.dart_tool.specs.declared.words.Verb.TheVariants as v;
+ghost use Rattle.dart_tool.specs.Words.{reading};
 
 use crate::status::Status;
 use crate::tool::dart;
@@ -39,7 +40,7 @@ pub fn annotations_are_not_read()
         FileGives name (Some text) out ↔ FileGives name (Some other) out }
     ensures outcome { (words : List (List ℕ)) (files others : Files)
         (name text other : List ℕ) (out : Outcome) →
-        reading words ≡ Some (run_file name) →
+        reading words ≡ Some (record { verb = v.Run; file = name }) →
         file_of files name ≡ Some text → file_of others name ≡ Some other →
         DifferInAnnotationsAlone text other →
         IsOutcome words files out ↔ IsOutcome words others out }

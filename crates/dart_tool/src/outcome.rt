@@ -1,11 +1,12 @@
 // What a file gives: the bytes that are written, and the status.
-ghost use Rattle.std.specs.Prelude.{◌≡◌, ◌++◌, false, IfOk};
+ghost use Rattle.std.specs.Prelude.{◌≡◌, ◌++◌, false, Some, IfOk};
 ghost use Rattle.std.specs.Fmt.{decimal};
-ghost use Rattle.dart_tool.specs.Outcome.{FileGives, refused, refusal_details, shown, shown_place, transcript_of, is_cut_short};
+ghost use Rattle.dart_tool.specs.Outcome.{EraseGives, FileGives, VerbGives, refused, refusal_details, shown, shown_place, transcript_of, is_cut_short};
 
-use crate::language::{Stop, run_text};
+use crate::language::{Stop, erase_text, run_text};
 use crate::run::{Ending, Printed};
 use crate::status::{Refusal, Status};
+use crate::words::Verb;
 use dart_base::bytes::Bytes;
 use dart_base::place::Place;
 use std::alloc::{AllocError, Global};
@@ -59,9 +60,10 @@ fn push_details(
             line.push(b' ')?;
             push_decimal(alloc, line, offset)
         }
-        Refusal::BadToken(place) | Refusal::IntegerTooLarge(place) => {
-            push_place(alloc, line, place, name)
-        }
+        Refusal::BadToken(place)
+        | Refusal::IntegerTooLarge(place)
+        | Refusal::Syntax(place)
+        | Refusal::TooDeep(place) => push_place(alloc, line, place, name),
         Refusal::LeftOut(place, feature) => {
             push_place(alloc, line, place, name)?;
             line.push(b' ')?;
@@ -106,22 +108,49 @@ pub fn transcript_of(printed: Printed) -> Result<Outcome, AllocError>
     }
 }
 
-/// What `run` gives for a file, or for the name of none.
+// What `run` gives for a file with this text.
+fn run_outcome(alloc: Global, name: &[u8], text: &[u8]) -> Result<Outcome, AllocError>
+    ensures gives { IfOk result (λ out. FileGives name.now (Some text.now) out) }
+    ensures ended { IfOk result (λ out. is_cut_short out.status ≡ false) }
+{
+    match run_text(alloc, text) {
+        Ok(Some(printed)) => transcript_of(printed),
+        Ok(None) => refused(alloc, Refusal::NotBuilt, name),
+        Err(Stop::Refused(why)) => refused(alloc, why, name),
+        Err(Stop::Memory) => Err(AllocError),
+    }
+}
+
+// What `erase` gives for a file with this text.
+fn erase_outcome(alloc: Global, name: &[u8], text: &[u8]) -> Result<Outcome, AllocError>
+    ensures gives { IfOk result (λ out. EraseGives name.now (Some text.now) out) }
+    ensures ended { IfOk result (λ out. is_cut_short out.status ≡ false) }
+{
+    match erase_text(alloc, text) {
+        Ok(bytes) => Ok(Outcome {
+            status: Status::Done,
+            bytes,
+        }),
+        Err(Stop::Refused(reason)) => refused(alloc, reason, name),
+        Err(Stop::Memory) => Err(AllocError),
+    }
+}
+
+/// What a command gives for its file, or for the name of none.
 pub fn file_outcome(
     alloc: Global,
+    verb: Verb,
     name: &[u8],
     content: Option<Bytes>,
 ) -> Result<Outcome, AllocError>
-    ensures gives { IfOk result (λ out. FileGives name.now content out) }
+    ensures gives { IfOk result (λ out. VerbGives verb name.now content out) }
     ensures ended { IfOk result (λ out. is_cut_short out.status ≡ false) }
 {
     let Some(text) = content else {
         return refused(alloc, Refusal::NotFound, name);
     };
-    match run_text(alloc, text.as_slice()) {
-        Ok(Some(printed)) => transcript_of(printed),
-        Ok(None) => refused(alloc, Refusal::NotBuilt, name),
-        Err(Stop::Refused(why)) => refused(alloc, why, name),
-        Err(Stop::Memory) => Err(AllocError),
+    match verb {
+        Verb::Run => run_outcome(alloc, name, text.as_slice()),
+        Verb::Erase => erase_outcome(alloc, name, text.as_slice()),
     }
 }

@@ -1,10 +1,12 @@
 // How a run of the tool ends, and why it refuses a program.
 ghost use Rattle.std.specs.Prelude.{◌≡◌};
-ghost use Rattle.dart_tool.specs.Status.{status_number, refusal_text, lexical_refusal};
+ghost use Rattle.dart_tool.specs.Status.{status_number, refusal_text, lexical_refusal, syntax_refusal, text_refusal};
 
 use dart_base::feature::Feature;
 use dart_base::place::Place;
+use dart_front::fault::TextFault;
 use dart_lex::lexer::LexFault;
+use parse_unit::fault::ParseFault;
 
 /// How a run of the tool ends. Another one is also a line of `status_number` in specs/Status.antt.
 #[derive(Clone, Copy, Debug, PartialEq, Eq)]
@@ -57,6 +59,10 @@ pub enum Refusal {
     LeftOut(Place, Feature),
     /// The integer here is above 2^127 - 1.
     IntegerTooLarge(Place),
+    /// No unit has the tokens up to here.
+    Syntax(Place),
+    /// No unit that is not too deep has the tokens up to here.
+    TooDeep(Place),
     /// The file is no program of the subset that is built so far.
     NotBuilt,
 }
@@ -76,6 +82,29 @@ impl Refusal {
         }
     }
 
+    /// The refusal for the parser's reason, or None where it is being out of memory.
+    pub fn of_syntax(fault: ParseFault) -> Option<Refusal>
+        ensures { result ≡ syntax_refusal fault }
+    {
+        match fault {
+            ParseFault::LeftOut(place, feature) => Some(Refusal::LeftOut(place, feature)),
+            ParseFault::Syntax(place) => Some(Refusal::Syntax(place)),
+            ParseFault::TooDeep(place) => Some(Refusal::TooDeep(place)),
+            ParseFault::Memory => None,
+        }
+    }
+
+    /// The refusal of a text that is no unit, or None where memory ran out.
+    pub fn of_text(fault: TextFault) -> Option<Refusal>
+        ensures { result ≡ text_refusal fault }
+    {
+        match fault {
+            TextFault::Lexis(fault) => Refusal::of_lexis(fault),
+            TextFault::Syntax(fault) => Refusal::of_syntax(fault),
+            TextFault::Memory => None,
+        }
+    }
+
     /// The kind as the line of a refusal shows it.
     pub fn text(self) -> &'static [u8]
         ensures { result.now ≡ refusal_text self }
@@ -87,6 +116,8 @@ impl Refusal {
             Refusal::BadToken(_) => b"BadToken",
             Refusal::LeftOut(_, _) => b"LeftOut",
             Refusal::IntegerTooLarge(_) => b"IntegerTooLarge",
+            Refusal::Syntax(_) => b"Syntax",
+            Refusal::TooDeep(_) => b"TooDeep",
             Refusal::NotBuilt => b"NotBuilt",
         }
     }

@@ -17,6 +17,12 @@ const ONE_SUM: &str = "main() { print(1 + 2); }";
 const USAGE: &str =
     "usage: dart run|trace [--checked] [--steps N] [--units N] [--workers N] FILE | erase FILE | analyse FILE | soak N\n";
 
+const ONE_CLASS: &str =
+    "class C { static int n = 1; final int k; C(int this.k); int operator +(int o) => k + o; }";
+
+const ONE_CLASS_ERASED: &str =
+    "class C { static var n = 1 ; final k ; C ( this . k ) ; operator + ( o ) => k + o ; }\n";
+
 const NOT_BUILT: &str = "** refused NotBuilt a.dart\n";
 
 const AT_LIMIT: &str = "** limit IntegerLimit\n";
@@ -82,7 +88,11 @@ fn programs(rt: HostRuntime) -> Result<(), AllocError> {
         ),
         ("main() { var print = 1; }", NOT_BUILT, Status::Refused),
         ("main() { print('a' + 1); }", NOT_BUILT, Status::Refused),
-        ("main() { print(1 +); }", NOT_BUILT, Status::Refused),
+        (
+            "main() { print(1 +); }",
+            "** refused Syntax a.dart:1:19\n",
+            Status::Refused,
+        ),
         (
             "main() { print(170141183460469231731687303715884105727); }",
             "170141183460469231731687303715884105727\n",
@@ -114,7 +124,44 @@ fn programs(rt: HostRuntime) -> Result<(), AllocError> {
 }
 
 #[test]
-fn lexical_reasons(rt: HostRuntime) -> Result<(), AllocError> {
+fn erased(rt: HostRuntime) -> Result<(), AllocError> {
+    let alloc = rt.alloc();
+    let words = words(alloc, &["erase", "a.dart"])?;
+    for (text, want, status) in [
+        (ONE_CLASS, ONE_CLASS_ERASED, Status::Done),
+        ("", "", Status::Done),
+        (
+            "f(g(String s), [int n = 1]) => g('a');",
+            "f ( g , [ n = 1 ] ) => g ( 'a' ) ;\n",
+            Status::Done,
+        ),
+        (
+            "\nint get(x) => 1; int\nget get => 2;",
+            "\nget ( x ) => 1 ;\nget get => 2 ;\n",
+            Status::Done,
+        ),
+        (
+            "main() { x = ; }",
+            "** refused Syntax a.dart:1:14\n",
+            Status::Refused,
+        ),
+        (
+            "main() { print('ab",
+            "** refused BadToken a.dart:1:16\n",
+            Status::Refused,
+        ),
+    ] {
+        let mut sources = NoFaultSources::new(alloc, files(alloc, text.as_bytes())?);
+        let mut sink = NoFaultSink::new(alloc);
+        let got = dart_in_memory(&rt, alloc, &words, &mut sources, &mut sink, &OpenGate);
+        assert_eq!(rt; got, status, "{text}");
+        assert!(rt; sink.written() == want.as_bytes(), "{text}");
+    }
+    Ok(())
+}
+
+#[test]
+fn reasons(rt: HostRuntime) -> Result<(), AllocError> {
     let alloc = rt.alloc();
     let words = words(alloc, &["run", "a.dart"])?;
     for (text, want) in [
@@ -131,8 +178,12 @@ fn lexical_reasons(rt: HostRuntime) -> Result<(), AllocError> {
             b"main() { print('${1}ab",
             "** refused BadToken a.dart:1:20\n",
         ),
-        (b"main() { print('${1", NOT_BUILT),
-        (b"}", NOT_BUILT),
+        (b"main() { print('${1", "** refused Syntax a.dart:1:20\n"),
+        (b"}", "** refused Syntax a.dart:1:1\n"),
+        (
+            b"main() { assert(true); }",
+            "** refused LeftOut a.dart:1:10 Assert\n",
+        ),
         (b"main() { var a$ = 1; }", NOT_BUILT),
         (
             b"main() {\n\tprint(1.5); #}",
@@ -223,7 +274,14 @@ fn words_without_a_program(rt: HostRuntime) -> Result<(), AllocError> {
         (["run", ""].as_slice(), USAGE, Status::Usage),
         (["run", "-a.dart"].as_slice(), USAGE, Status::Usage),
         (["run", "a.dart", "a.dart"].as_slice(), USAGE, Status::Usage),
-        (["erase", "a.dart"].as_slice(), USAGE, Status::Usage),
+        (["analyse", "a.dart"].as_slice(), USAGE, Status::Usage),
+        (
+            ["erase", "b.dart"].as_slice(),
+            "** refused NotFound b.dart\n",
+            Status::Refused,
+        ),
+        (["erase"].as_slice(), USAGE, Status::Usage),
+        (["erase", "-a.dart"].as_slice(), USAGE, Status::Usage),
     ] {
         let words = words(alloc, texts)?;
         let mut sources = NoFaultSources::new(alloc, files(alloc, ONE_SUM.as_bytes())?);
@@ -258,14 +316,15 @@ fn faults(rt: HostRuntime) -> Result<(), AllocError> {
 const TEN_STATEMENTS: &str =
     "main() { var a = 1; int b = a + 2; String c = 'text'; print(a); print(b); print(c); dynamic d = a + b + 4; print(d); print('last'); print(d + d); }";
 
-// Runs the text, and accepts its outcome, or Memory after a prefix of it.
-fn run_in_little_memory<R: Abort + Threads + Wait + Sync>(
+// Gives the text to a command, and accepts its outcome, or Memory after a prefix of it.
+fn in_little_memory<R: Abort + Threads + Wait + Sync>(
     rt: &R,
     alloc: Global,
+    command: &str,
     text: &str,
     want: &str,
 ) -> Result<(), AllocError> {
-    let words = words(alloc, &["run", "a.dart"])?;
+    let words = words(alloc, &[command, "a.dart"])?;
     let files = files(alloc, text.as_bytes())?;
     let mut sources = MemSources::new(alloc, files, Vec::new(alloc));
     let mut sink = MemSink::new(alloc, 1, Vec::new(alloc));
@@ -281,11 +340,12 @@ fn run_in_little_memory<R: Abort + Threads + Wait + Sync>(
 
 #[test]
 fn out_of_memory(rt: HostRuntime) {
-    for (text, want) in [
-        (ONE_SUM, "3\n"),
-        (TEN_STATEMENTS, "1\n3\ntext\n8\nlast\n16\n"),
+    for (command, text, want) in [
+        ("run", ONE_SUM, "3\n"),
+        ("run", TEN_STATEMENTS, "1\n3\ntext\n8\nlast\n16\n"),
+        ("erase", ONE_CLASS, ONE_CLASS_ERASED),
     ] {
         // An allocation that fails before the call leaves nothing to see.
-        let _ = run_in_little_memory(&rt, rt.alloc(), text, want);
+        let _ = in_little_memory(&rt, rt.alloc(), command, text, want);
     }
 }

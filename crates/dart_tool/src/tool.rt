@@ -1,15 +1,14 @@
 // The whole tool.
-ghost use Rattle.std.specs.Prelude.{◌≡◌, false, None, IfSome, map};
+ghost use Rattle.std.specs.Prelude.{◌≡◌, false, None, Some, IfSome, map};
 ghost use Rattle.std.specs.String.{string_bytes};
 ghost use Rattle.dart_edge.specs.Fault.{Counts};
-ghost use Rattle.dart_edge.specs.Files.{file_of};
 ghost use Rattle.dart_tool.specs.Words.{reading};
-ghost use Rattle.dart_tool.specs.Outcome.{FileGives, IsOutcome, usage_outcome, is_cut_short};
+ghost use Rattle.dart_tool.specs.Outcome.{CommandGives, IsOutcome, usage_outcome, is_cut_short};
 ghost use Rattle.dart_tool.specs.Tool.{Answers, Delivers, is_read_fault, is_write_fault};
 
 use crate::outcome::file_outcome;
 use crate::status::Status;
-use crate::words::file_to_run;
+use crate::words::{Verb, command};
 use dart_edge::gate::Gate;
 use dart_edge::sink::{Sink, SinkFault, write_whole};
 use dart_edge::source::{SourceFault, Sources};
@@ -36,10 +35,16 @@ fn deliver<K: Sink>(sink: &mut K, status: Status, bytes: &[u8]) -> Status
     }
 }
 
-// `run FILE`
-fn run_file<S: Sources, K: Sink>(alloc: Global, file: &str, sources: &mut S, sink: &mut K) -> Status
+// A command with its file.
+fn do_verb<S: Sources, K: Sink>(
+    alloc: Global,
+    verb: Verb,
+    file: &str,
+    sources: &mut S,
+    sink: &mut K,
+) -> Status
     ensures answer { IfSome (S.files sources.old) (λ files.
-        Answers (FileGives file.now (file_of files file.now)) result
+        Answers (CommandGives (Some (record { verb = verb; file = file.now })) files) result
         (K.written sink.old) (K.written sink.new)) }
     ensures usage { result ≡ Status.Usage → ⊥ }
     ensures unread { result ≡ Status.ReadFault → K.written sink.new ≡ K.written sink.old }
@@ -52,7 +57,7 @@ fn run_file<S: Sources, K: Sink>(alloc: Global, file: &str, sources: &mut S, sin
         Err(SourceFault::Failed) => return Status::ReadFault,
         Err(SourceFault::Memory) => return Status::Memory,
     };
-    match file_outcome(alloc, file.as_bytes(), content) {
+    match file_outcome(alloc, verb, file.as_bytes(), content) {
         Ok(due) => deliver(sink, due.status, due.bytes.as_slice()),
         Err(_) => Status::Memory,
     }
@@ -83,8 +88,8 @@ pub fn dart<R: Threads + Wait + Sync, S: Sources, K: Sink, G: Gate>(
     ensures usage_only { result ≡ Status.Usage → reading (map string_bytes words.now) ≡ None }
     ensures files { S.files sources.new ≡ S.files sources.old }
 {
-    match file_to_run(words) {
-        Some(file) => run_file(alloc, file.as_str(), sources, sink),
+    match command(words) {
+        Some((verb, file)) => do_verb(alloc, verb, file.as_str(), sources, sink),
         None => deliver(sink, Status::Usage, USAGE),
     }
 }

@@ -1,12 +1,13 @@
 -- A text is the source of one program at most.
-use Rattle.std.proofs.Common.{◌≡◌, ◌∙◌, sym, ap, subst, ℕ, List, []}
+use Rattle.std.proofs.Common.{◌≡◌, ◌∙◌, ◌≤◌, sym, ap, subst, length, ℕ, List, []}
 use Rattle.dart_token.specs.declared.token.Token.{Token}
 use Rattle.dart_lex.specs.Spelling.{Spells}
 use Rattle.dart_lex.proofs.LexLaws.{one_spelling}
 use Rattle.dart_tool.specs.declared.subset.program.Statement.{Statement}
 use Rattle.dart_tool.specs.Subset.Names.{Fits}
 use Rattle.dart_tool.specs.Subset.Terminal.{Terminal, terminals}
-use Rattle.dart_tool.specs.Subset.Program.{program_terminals, SpellsTerminals, SpellsProgram, IsSource}
+use Rattle.dart_tool.specs.declared.subset.source.TheConstants.{GREATEST_LENGTH}
+use Rattle.dart_tool.specs.Subset.Program.{program_terminals, SpellsTerminals, SpellsProgram, SpellsNoProgram, IsSource}
 use Rattle.dart_tool.proofs.SubsetLaws.Printing.{one_printing}
 
 -- the terminals of a text that spells these tokens
@@ -24,6 +25,10 @@ pub no_source : (text : List ℕ) (tokens : List Token) (q : List Statement) →
 no_source text tokens q spelled printed none p source =
     none (subst (Fits []) (one_printing p q (spelled_terminals text tokens (program_terminals p) spelled source.spells.spelled ∙ sym printed)) source.fits)
 
--- and so is one that spells tokens of no program
-pub no_program : (text : List ℕ) (tokens : List Token) → Spells 0 text tokens → ((p : List Statement) → program_terminals p ≡ terminals tokens → ⊥) → (p : List Statement) → IsSource text p → ⊥
-no_program text tokens spelled none p source = none p (spelled_terminals text tokens (program_terminals p) spelled source.spells.spelled)
+-- a text that spells tokens of no program spells none
+pub no_program : (text : List ℕ) (tokens : List Token) → Spells 0 text tokens → ((p : List Statement) → program_terminals p ≡ terminals tokens → ⊥) → SpellsNoProgram text
+no_program text tokens spelled none p spells = none p (spelled_terminals text tokens (program_terminals p) spelled spells.spelled)
+
+-- a text that isn't too long spells the program that its tokens are
+pub spells_this : (text : List ℕ) (tokens : List Token) (p : List Statement) → length text ≤ GREATEST_LENGTH → Spells 0 text tokens → program_terminals p ≡ terminals tokens → SpellsProgram text p
+spells_this text tokens p small spelled printed = record { small = small; spelled = (tokens, spelled, sym printed) }

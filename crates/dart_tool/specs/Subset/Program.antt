@@ -6,6 +6,8 @@ use Rattle.dart_token.specs.declared.word.Word.TheVariants as w
 use Rattle.dart_token.specs.declared.token.Token.{Token}
 use Rattle.dart_lex.specs.Spelling.{Spells}
 use Rattle.dart_tool.specs.declared.subset.source.TheConstants.{GREATEST_LENGTH}
+use Rattle.dart_tool.specs.declared.subset.source.Reading.{Reading}
+use Rattle.dart_tool.specs.declared.subset.source.Reading.TheVariants.{Source, Unfit, Unspelled}
 use Rattle.dart_tool.specs.declared.subset.program.DeclaredBy.{DeclaredBy}
 use Rattle.dart_tool.specs.declared.subset.program.DeclaredBy.TheVariants.{Var, Int, Text, Dynamic}
 use Rattle.dart_tool.specs.declared.subset.program.Operand.{Operand}
@@ -63,6 +65,18 @@ pub record SpellsProgram (text : List ℕ) (statements : List Statement) : Type 
 pub record IsSource (text : List ℕ) (statements : List Statement) : Type 0 where
   pub spells : SpellsProgram text statements
   pub fits : Fits [] statements
+
+-- The text spells no program.
+abbrev pub SpellsNoProgram : List ℕ → Type 0
+SpellsNoProgram text = (statements : List Statement) → SpellsProgram text statements → ⊥
+
+-- What a text is to the subset: the source of a program, or one that spells a program and is the source of none, or one that
+-- spells none.
+abbrev pub IsReading : List ℕ → Reading → Type 0
+IsReading text (Source statements) = IsSource text statements.items
+IsReading text Unfit = ((statements : List Statement) × SpellsProgram text statements) ×
+    ((statements : List Statement) → IsSource text statements → ⊥)
+IsReading text Unspelled = SpellsNoProgram text
 
 -- a statement with `var` before the name that it declares
 abbrev pub without_annotation : Statement → Statement

@@ -1,8 +1,7 @@
 // From the tokens of a file to its program.
-ghost use Rattle.std.specs.Prelude.{List, IfOk, MatchOption};
+ghost use Rattle.std.specs.Prelude.{IfOk};
 ghost use Rattle.dart_lex.specs.Spelling.{Spells};
-ghost use Rattle.dart_tool.specs.declared.subset.program.Statement.{Statement};
-ghost use Rattle.dart_tool.specs.Subset.Program.{IsSource};
+ghost use Rattle.dart_tool.specs.Subset.Program.{IsReading};
 
 use crate::subset::program::Statement;
 use crate::subset::{parser, scope};
@@ -12,27 +11,32 @@ use std::alloc::{AllocError, Global};
 /// The most bytes of a program of the subset.
 const GREATEST_LENGTH: usize = 10_000;
 
-/// The program of a text that spells these tokens, or None where it is the source of none.
-pub fn program_of(
-    alloc: Global,
-    text: &[u8],
-    tokens: &[Token],
-) -> Result<Option<Vec<Statement>>, AllocError>
+/// What a text is to the subset.
+#[derive(Drop)]
+pub enum Reading {
+    /// The source of the program with these statements.
+    Source(Vec<Statement>),
+    /// It spells a program whose names don't fit.
+    Unfit,
+    /// It spells no program.
+    Unspelled,
+}
+
+/// What a text is that spells these tokens.
+pub fn source_of(alloc: Global, text: &[u8], tokens: &[Token]) -> Result<Reading, AllocError>
     requires { Spells 0 text.now tokens.now }
-    ensures { IfOk result (λ found. MatchOption found
-        ((statements : List Statement) → IsSource text.now statements → ⊥)
-        (λ statements. IsSource text.now statements.items)) }
+    ensures { IfOk result (λ found. IsReading text.now found) }
 {
     if text.len() > GREATEST_LENGTH {
-        return Ok(None);
+        return Ok(Reading::Unspelled);
     }
     let Some(statements) = parser::program(alloc, tokens)? else {
-        return Ok(None);
+        return Ok(Reading::Unspelled);
     };
     if scope::fits(alloc, &statements)? {
-        Ok(Some(statements))
+        Ok(Reading::Source(statements))
     } else {
-        Ok(None)
+        Ok(Reading::Unfit)
     }
 }
 

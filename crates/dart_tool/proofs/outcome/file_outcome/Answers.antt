@@ -1,13 +1,13 @@
-use Rattle.std.proofs.Common.{List, ℕ, None}
-use Rattle.dart_tool.specs.declared.status.Refusal.{Refusal}
-use Rattle.dart_tool.specs.Language.{RefusedFor, GivesRun}
-use Rattle.dart_tool.proofs.Outcomes.{not_built}
+use Rattle.std.proofs.Common.{ℕ, List, Some, sym}
+use Rattle.dart_tool.specs.declared.words.Verb.TheVariants as v
+use Rattle.dart_tool.specs.Outcome.{EraseGives, FileGives}
+use Rattle.dart_tool.proofs.Outcomes.{verb_gives}
 use Rattle.dart_tool.proofs.outcome.file_outcome.Goals as goal
 
-pub returns-in-Ok-None-clause-gives : goal.returns-in-Ok-None-clause-gives
-returns-in-Ok-None-clause-gives c =
-    let text : List ℕ = c.in-Some.text in
-    let none : (why : Refusal) → RefusedFor text why → ⊥ = rw c.as_slice.ensures at c.in-Ok-None.ensures.unrefused in
-    let gives : GivesRun c.as_slice.result.now None = rw c.in-Ok-None.field-0-is at c.in-Ok-None.ensures.runs in
-    let no_run : GivesRun text None = rw c.as_slice.ensures at gives in
-    not_built c.args.name.now text c.args.content c.in-Some.is none no_run c.refused-in-Ok-None.result c.refused-in-Ok-None.ensures
+pub returns-in-Run-clause-gives : goal.returns-in-Run-clause-gives
+returns-in-Run-clause-gives c =
+    verb_gives c.args.verb v.Run c.args.name.now c.args.content c.in-Some.text c.as_slice.result.now c.in-Run.is c.in-Some.is c.as_slice.ensures c.run_outcome.result c.run_outcome.ensures.gives
+
+pub returns-clause-gives : goal.returns-clause-gives
+returns-clause-gives c =
+    verb_gives c.args.verb v.Erase c.args.name.now c.args.content c.in-Some.text c.as_slice-in-Erase.result.now c.in-Erase.is c.in-Some.is c.as_slice-in-Erase.ensures c.erase_outcome.result c.erase_outcome.ensures.gives

@@ -1,5 +1,5 @@
 // Texts that are the source of a program, and texts that are not.
-use super::program_of;
+use super::{Reading, source_of};
 use crate::subset::program::{Operand, Statement};
 use dart_lex::lexer::{LexFault, lex};
 use std::alloc::Global;
@@ -7,7 +7,10 @@ use std::test::Fail;
 
 fn source_program(alloc: Global, text: &[u8]) -> Result<Option<Vec<Statement>>, LexFault> {
     let tokens = lex(alloc, 0, text)?;
-    Ok(program_of(alloc, text, &tokens)?)
+    match source_of(alloc, text, &tokens)? {
+        Reading::Source(statements) => Ok(Some(statements)),
+        Reading::Unfit | Reading::Unspelled => Ok(None),
+    }
 }
 
 #[test]
