@@ -93,4 +93,6 @@ if ! is_current; then
     is_current || build
     exec 9>&-
 fi
+# A tree of 300 nodes above one another takes up to 13 MB of stack to read, and more than some systems give.
+ulimit -s 32768 2>/dev/null || :
 exec "$program" "$@"

@@ -1,24 +1,31 @@
 #!/usr/bin/env python3
 """Times the front end against luac and gcc on files of one shape, and prints ratios.
 
-usage: bench/front.py [--runs N] [--sizes 0.5,1,2,16] [--dart PROGRAM] [--files FOLDER]
+usage: bench/front.py [--runs N] [--sizes 0.5,1,2,16] [--dart PROGRAM] [--files FOLDER] [--hard]
 
 The files hold classes (structs in C, tables in Lua) with fields, loops, branches and texts. The numbers in them come
 from a generator with a fixed start, so that the bytes are the same at each run. With --files the files front.dart,
 front.lua and front.c of a folder are timed instead. Each figure is the best of N runs, net of the time that the same
 program takes for an empty file. Times hold only as ratios within one run of this script. The memory of a small run is
 that of the script, of which the peers are children.
+
+With --hard `dart erase` alone is timed, on sources that are long, deep or wrong, beside a megabyte of the plain ones.
 """
 import argparse
+import math
 import os
 import resource
 import shutil
+import signal
 import subprocess
 import sys
 import tempfile
 import time
 
 HERE = os.path.dirname(os.path.abspath(__file__))
+
+# Seconds of processor time after which a run is given up.
+SECONDS = 20
 
 DART = '''
 /* Shelf @n holds parts between two marks. */
@@ -180,13 +187,71 @@ def write(path, shape, size):
     return length
 
 
+def nested(times, before, inside, after):
+    return before * times + inside + after * times
+
+
+def defaults(depth, closed):
+    """Function literals, each in the default value of a parameter of the one around it."""
+    opened = ''.join('([a%d = ' % number for number in range(depth))
+    return 'main() { x = ' + opened + '1' + ('])' * depth + ';' if closed else '') + ' }\n'
+
+
+def hard(plain):
+    """The hard sources: what each is called, and its text."""
+    strings = nested(150, "'a${", 'b', "}'")
+    literals = ''.join('f%d([g = %s]) => g;\n' % (number, nested(40, '([h = ', '1', ']) => h')) for number in range(50))
+    return [
+        ('300,000 open brackets', 'main() { print(' + '(' * 300_000),
+        ('300,000 brackets, closed', 'main() { print(' + nested(300_000, '(', '1', ')') + '); }\n'),
+        ('300,000 open `List<`', 'List<' * 300_000),
+        ('a row of 300,000 `+`', 'var x = 1' + ' + 1' * 300_000 + ';\n'),
+        ('a row of 100,000 `a ? b :`', 'var x = ' + 'a ? b : ' * 100_000 + 'c;\n'),
+        ('100,000 labels', 'main() { ' + ''.join('l%d: ' % number for number in range(100_000)) + 'x(); }\n'),
+        ('300,000 open braces', 'main() ' + '{' * 300_000),
+        ('20,000 times `a < b > (c) ;`', 'main() { ' + 'a < b > (c) ;\n' * 20_000 + '}\n'),
+        ('20,000 times `a < b , c > d ;`', 'main() { ' + 'a < b , c > d ;\n' * 20_000 + '}\n'),
+        ('150 strings in strings, 300 times', 'main() {\n' + ('print(%s);\n' % strings) * 300 + '}\n'),
+        ('40 literals in default values, 50 times', literals),
+        ('60 default values, closed', defaults(60, True)),
+        ('60 default values, open', defaults(60, False)),
+        ('half a file', plain[:len(plain) // 2]),
+        ('one token', 'class'),
+    ]
+
+
+def time_hard(given, folder):
+    """Times `dart erase` on the hard sources, and prints how they compare with the plain one."""
+    def net(text):
+        with open(os.path.join(folder, 'hard.dart'), 'w') as out:
+            out.write(text)
+        return max(best([os.path.abspath(given.dart), 'erase', 'hard.dart'], folder, given.runs)[0] - base, 1e-9)
+    base = best([os.path.abspath(given.dart), 'erase', 'empty.dart'], folder, given.runs)[0]
+    write(os.path.join(folder, 'plain.dart'), 'dart', 1e6)
+    with open(os.path.join(folder, 'plain.dart')) as source:
+        plain = source.read()
+    whole = net(plain)
+    print('| source | KB | time, plain megabyte = 1 | time a byte, plain = 1 |')
+    print('|---|---|---|---|')
+    for name, text in hard(plain):
+        part = net(text) / whole
+        if part == math.inf:
+            print(f'| {name} | {len(text) / 1e3:.1f} | more than {SECONDS} s |  |', flush=True)
+            continue
+        # Of a short file the time is that of the process.
+        a_byte = f'{part * len(plain) / len(text):.2f}' if len(text) > 100_000 else ''
+        print(f'| {name} | {len(text) / 1e3:.1f} | {part:.3f} | {a_byte} |', flush=True)
+
+
 def run(words, folder):
-    """Seconds and kilobytes of one run."""
+    """Seconds and kilobytes of one run, the seconds being endless where it takes too many."""
     begin = time.perf_counter()
-    child = subprocess.Popen(words, cwd=folder, stdout=subprocess.DEVNULL, stderr=subprocess.DEVNULL)
+    child = subprocess.Popen(words, cwd=folder, stdout=subprocess.DEVNULL, stderr=subprocess.DEVNULL,
+                             preexec_fn=lambda: resource.setrlimit(resource.RLIMIT_CPU, (SECONDS, SECONDS)))
     _, status, usage = os.wait4(child.pid, 0)
     child.returncode = os.waitstatus_to_exitcode(status)
-    return time.perf_counter() - begin, usage.ru_maxrss
+    taken = time.perf_counter() - begin
+    return math.inf if child.returncode == -signal.SIGKILL else taken, usage.ru_maxrss
 
 
 def best(words, folder, runs):
@@ -208,14 +273,20 @@ def main():
     options.add_argument('--sizes', default='0.5,1,2,16')
     options.add_argument('--files')
     options.add_argument('--dart', default=os.path.join(HERE, '..', 'build', 'dart'))
+    options.add_argument('--hard', action='store_true')
     given = options.parse_args()
-    peers = [('dart run', 'dart', [os.path.abspath(given.dart), 'run'])]
+    if given.hard:
+        with tempfile.TemporaryDirectory() as folder:
+            open(os.path.join(folder, 'empty.dart'), 'w').close()
+            time_hard(given, folder)
+        return
+    peers = [('dart erase', 'dart', [os.path.abspath(given.dart), 'erase'])]
     for name, shape, words in [('luac -p', 'lua', ['luac', '-p']), ('gcc -fsyntax-only', 'c', ['gcc', '-fsyntax-only'])]:
         if shutil.which(words[0]):
             peers.append((name, shape, words))
         else:
             print(f'{words[0]} is missing: left out', file=sys.stderr)
-    print('| front end | MB | MB/s, dart run = 1 | time, size before = 1 | memory, MB |')
+    print('| front end | MB | MB/s, dart erase = 1 | time, size before = 1 | memory, MB |')
     print('|---|---|---|---|---|')
     with tempfile.TemporaryDirectory() as folder:
         for shape in SHAPES:

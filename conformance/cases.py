@@ -4,7 +4,7 @@ A case NAME is a file NAME.stdout, which holds the bytes that are due, and besid
     NAME.dart     the file that is run; where there is none, the words stand in NAME.args
     NAME.repeat   in place of NAME.dart: a number and a line feed, and then the bytes that NAME.dart has so many times
     NAME.files/   further files, which lie in the folder that the program runs in
-    NAME.args     the words, one a line; without it they are `run` and `NAME.dart`
+    NAME.args     the words, one a line; without it they are `run` and `NAME.dart`, in erased/ `erase` and `NAME.dart`
     NAME.status   the status, where it isn't that of the case's folder (STATUS, below)
     NAME.output   a device that takes the output, in place of a comparison
 """
@@ -20,7 +20,7 @@ DART = ROOT / 'dart'
 # The launcher's status where the program can't be built.
 NOT_BUILT = 125
 STATUS = {
-    'examples': 0, 'runs': 0, 'warned': 1, 'usage': 2, 'refused': 3, 'uncaught': 4, 'fails-check': 5, 'limits': 6,
+    'examples': 0, 'runs': 0, 'erased': 0, 'warned': 1, 'usage': 2, 'refused': 3, 'uncaught': 4, 'fails-check': 5, 'limits': 6,
 }
 ENDINGS = ('.stdout', '.dart', '.repeat', '.files', '.args', '.status', '.output')
 
@@ -44,7 +44,8 @@ def words(case):
     args = beside(case, '.args')
     if args.exists():
         return args.read_bytes().split(b'\n')[:-1]
-    return [b'run', os.fsencode(case.name + '.dart')]
+    command = b'erase' if case.parent.name == 'erased' else b'run'
+    return [command, os.fsencode(case.name + '.dart')]
 
 
 def due_status(case):

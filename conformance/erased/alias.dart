@@ -1,0 +1,1 @@
+typedef int F<T>(T a, String g(int x), {int b});

@@ -1,0 +1,2 @@
+async() => sync; var async = 1;
+int f() { } async(int x) => x;

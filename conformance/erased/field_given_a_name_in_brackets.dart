@@ -1,0 +1,1 @@
+class C { var x; C(a) : x = (a) {} }

@@ -1,0 +1,2 @@
+#!/usr/bin/dart
+int x;

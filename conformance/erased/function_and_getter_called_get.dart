@@ -1,0 +1,1 @@
+int get(x) => 1; int get get => 2;

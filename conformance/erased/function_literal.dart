@@ -1,0 +1,1 @@
+var g = (int a, [String b = 'x']) => a;

@@ -1,0 +1,1 @@
+f(g(String s), [int n = 1]) => g('a');

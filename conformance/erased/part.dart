@@ -1,0 +1,2 @@
+part of a.b;
+int t;

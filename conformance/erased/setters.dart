@@ -1,0 +1,2 @@
+class C { static void set x(int v) {} }
+void set y(String v) {}

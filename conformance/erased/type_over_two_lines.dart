@@ -1,0 +1,5 @@
+main() {
+  Map<String,
+      int> m = new Map<String, int>();
+  throw 'x';
+}

@@ -1,0 +1,1 @@
+f(x) => x is! List<int> && (x as num) > 1;

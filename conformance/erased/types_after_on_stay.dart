@@ -1,0 +1,1 @@
+f() { try { g(); } on Foo<int> catch (e, s) { rethrow; } finally { } }

@@ -1,0 +1,1 @@
+class C { const factory C() = D; }

@@ -1,0 +1,1 @@
+var x = const [1];

@@ -1,0 +1,1 @@
+main() { x = ; assert(y); }
