@@ -1,0 +1,241 @@
+-- The law of the reader of one part of a cascade (ECMA-408, 16.17.2 Cascaded Invocations).
+use Rattle.std.proofs.Common.{◌≡◌, ℕ, max, Bool, true, false, List, [], ◌∷◌, ◌++◌, Option, None, Some, Ok, Err, ◌⊎◌, inl, inr, refl, ap, sym, ◌∙◌, subst, append_assoc}
+use Rattle.std.proofs.lemmas.List.{append-nil}
+use Rattle.dart_base.specs.declared.place.Place.{Place}
+use Rattle.dart_token.specs.declared.token.Token.{Token}
+use Rattle.dart_token.specs.declared.sign.Sign.TheVariants as s
+use Rattle.dart_tree.specs.declared.operator.Operator.{Operator}
+use Rattle.dart_tree.specs.LeafTokens.{operator_tokens}
+use Rattle.dart_tree.specs.Types.{TypeNode}
+use Rattle.dart_tree.specs.Tree as t
+use Rattle.dart_tree.specs.Tree.{Expr, Selectors, Value}
+use Rattle.dart_tree.specs.Tokens.{expr_tokens, value_tokens, selectors_tokens}
+use Rattle.grammar_laws.specs.Codes.{has, Apart, Within, given, after_followed_by}
+use Rattle.grammar_laws.specs.Readers.{Outcome, Reader, and_then, always, never, continued_by}
+use Rattle.grammar_laws.specs.Laws.{Laws}
+use Rattle.grammar_laws.specs.Fronts.{Front, Joint, BothFit, Made, both_spelling, option_spelling}
+use Rattle.grammar_laws.proofs.Codes.{apart, apart_none, apart_smaller, inside, or_right, within_none, within_then, within_union, within_given, within_left, within_right}
+use Rattle.grammar_laws.proofs.Restated.{made_laws, reread, refront}
+use Rattle.grammar_laws.proofs.Combined.{both_laws}
+use Rattle.dart_syntax.specs.Phrases.{Anything}
+use Rattle.dart_syntax.specs.Leaves.{sign_tokens}
+use Rattle.dart_syntax.specs.Leaves as l
+use Rattle.dart_syntax.specs.Agreement.{section_tokens}
+use Rattle.dart_syntax.specs.Edges.{opens_nothing, question, compares, binds_between, expr_takes, cascades_take}
+use Rattle.dart_syntax.specs.Expressions as g
+use Rattle.dart_syntax.specs.Expressions.{assignment_signs, selectors_assign}
+use Rattle.dart_syntax.specs.Levels.{sign_level}
+use Rattle.token_codes.specs.Codes.{class_of, names, sign_code, these, sign_codes}
+use Rattle.token_codes.specs.Leaves.{sign}
+use Rattle.token_codes.proofs.Leaves.{sign_reads}
+use Rattle.syntax_readers.specs.Combinators.{Open, with_half, shut, halved}
+use Rattle.syntax_readers.specs.Primaries.{ExprReaders, operand_first, expr_first, selector_first, section_over}
+use Rattle.syntax_readers.specs.Expressions.{Assigned, Cascade, a_cascade, assign_codes, assignment, cascade_over}
+use Rattle.laws_expr.specs.Nexts.{Taking, nexts, taken, expr_alone, cascades_alone, after_without, after_cascade}
+use Rattle.laws_expr.proofs.Known.{ClosedRead}
+use Rattle.laws_expr.proofs.Open.{OpenLaws, open_spelling, half_tokens, after_open, tree, no_some, shut_laws}
+use Rattle.laws_expr.proofs.Edges.{within_at, taken_moves}
+use Rattle.laws_expr.proofs.Chain.{half_of, half_moves}
+use Rattle.laws_expr.proofs.Once.{half_without}
+use Rattle.laws_expr.proofs.Selectors.{section_laws}
+use Rattle.laws_expr.proofs.Halved.{halved_laws}
+use Rattle.laws_expr.proofs.Assigning.{OperatorFits, second_tokens, one_of_said, parts, same_parts, parts_spell, PartsFit, Said, parts_laws}
+
+abbrev one_cascade : Place × (Selectors × Value) → t.Cascades
+one_cascade x = t.cascade x.0 x.1.0 x.1.1 t.no_cascades
+
+abbrev pub half_cascade : Place × (Selectors × Value) → List ℕ
+half_cascade x = half_of (λ next opens. cascades_take next opens question (one_cascade x)) (cascades_alone (one_cascade x))
+
+-- ---- what goes on
+
+given_within : (b : Bool) (xs ys : List ℕ) → Within xs ys → Within (given b xs) (given b ys)
+given_within true xs ys w = w
+given_within false xs ys w = within_none []
+
+abbrev assigned_codes : List ℕ
+assigned_codes = sign_code s.Greater ∷ sign_codes assignment_signs
+
+omitted_on : (dots : Place) (x : Selectors) → Within ((selector_first ++ given (selectors_assign x) (these s.Greater)) ++ given (selectors_assign x) (sign_codes assignment_signs)) (after_cascade (dots, (x, t.omitted)))
+unfolding cascades_take cascades_alone
+omitted_on dots x =
+    let takes : Taking = λ next opens. cascades_take next opens question (one_cascade (dots, (x, t.omitted))) in
+    let own : List ℕ = given (selectors_assign x) assigned_codes in
+    let dot : Within (these s.Dot) (taken takes) = within_at 13 nexts (these s.Dot) takes refl refl in
+    let brackets : Within (sign_codes (s.LeftBracket ∷ s.LeftParenthesis ∷ [])) (taken takes) = within_at 14 nexts (sign_codes (s.LeftBracket ∷ s.LeftParenthesis ∷ [])) takes refl refl in
+    within_union (within_union (within_then (within_union dot brackets) (within_left (taken takes) own)) (within_then (given_within (selectors_assign x) (these s.Greater) assigned_codes (inside refl)) (within_right (taken takes) own)))
+    (within_then (given_within (selectors_assign x) (sign_codes assignment_signs) assigned_codes (inside refl)) (within_right (taken takes) own))
+
+half_by : (b : Bool) (takes : Taking) → Within (given b (these s.GreaterEqual)) (half_of takes (given b assigned_codes))
+half_by true takes =
+    let compared : List ℕ = given (takes compares opens_nothing) operand_first in
+    within_then (within_right compared (these s.GreaterEqual)) (within_right (given (takes (sign_level s.ShiftLeft) opens_nothing) (these s.Greater)) (compared ++ these s.GreaterEqual))
+half_by false takes = within_none (half_of takes [])
+
+value_takes : (dots : Place) (x : Selectors) (operator : Option Operator) (e : Expr) (next : ℕ) (opens : TypeNode → Bool) → expr_takes next opens question e ≡ true → cascades_take next opens question (one_cascade (dots, (x, t.given operator e))) ≡ true
+unfolding cascades_take
+value_takes dots x operator e next opens h = or_right (binds_between next opens question question) (expr_takes next opens (max question question) e) h
+
+value_on : (dots : Place) (x : Selectors) (operator : Option Operator) (e : Open Expr) → Within (after_open after_without half_without e) (after_open after_cascade half_cascade (with_half (λ y. (dots, (x, t.given operator y))) e))
+unfolding cascades_alone
+value_on dots x operator (e, None) =
+    let takes : Taking = λ next opens. cascades_take next opens question (one_cascade (dots, (x, t.given operator e))) in
+    within_union (within_then (taken_moves nexts (λ next opens. expr_takes next opens question e) takes (value_takes dots x operator e)) (within_left (taken takes) (expr_alone e))) (within_right (taken takes) (expr_alone e))
+value_on dots x operator (e, Some g) = half_moves (λ next opens. expr_takes next opens question e) (λ next opens. cascades_take next opens question (one_cascade (dots, (x, t.given operator e)))) (expr_alone e) (value_takes dots x operator e)
+
+-- ---- the part
+
+module _ {inner : ExprReaders} {nodes : g.ExprNodes} (N : ClosedRead inner nodes) (W : OpenLaws inner.without expr_tokens nodes.without.Fits nodes.without.front expr_first after_without half_without) where
+  abbrev Section : Selectors → Type 0
+  Section = (g.section_over nodes).Fits
+
+  abbrev section_front : Front Token
+  section_front = (g.section_over nodes).front
+
+  abbrev no_codes : Selectors → List ℕ
+  no_codes x = []
+
+  abbrev after_section : Selectors → List ℕ
+  after_section x = selector_first
+
+  shut_section : OpenLaws (shut (section_over inner)) selectors_tokens Section section_front (names ++ these s.LeftBracket) after_section no_codes
+  shut_section = shut_laws (section_laws N) no_codes
+
+  no_greater : (x : Selectors) → Section x → selectors_assign x ≡ true → ((g : Place) → shut_section.Fits (x, Some g)) ⊎ (has (after_section x) (sign_code s.Greater) ≡ false)
+  no_greater x fits on = inr refl
+
+  abbrev section_half : OpenLaws (halved selectors_assign (shut (section_over inner))) selectors_tokens Section (Joint selectors_tokens Section selectors_assign section_front (l.sign s.Greater).front) (names ++ these s.LeftBracket) (λ x. selector_first ++ given (selectors_assign x) (these s.Greater)) no_codes
+  section_half = halved_laws shut_section selectors_assign no_greater
+
+  abbrev after_half : Selectors → List ℕ
+  after_half x = selector_first ++ given (selectors_assign x) (these s.Greater)
+
+  no_assign : (x : Selectors) → Section x → selectors_assign x ≡ true → Apart (after_half x) (sign_codes assignment_signs)
+  no_assign x fits on = apart_smaller (within_union (inside {xs = selector_first} {ys = sign_code s.Greater ∷ selector_first} refl) (within_given (selectors_assign x) (λ e. inside {xs = these s.Greater} {ys = sign_code s.Greater ∷ selector_first} refl))) (apart refl)
+
+  halves : (x : Selectors) (g : Place) → Section x → selectors_assign x ≡ true → section_half.Fits (x, Some g)
+  halves x g fits on = inr (fits, on)
+
+  abbrev Part : Open Selectors × Option Assigned → Type 0
+  Part = PartsFit selectors_assign section_half W no_assign (λ x fits on. apart_none (these s.GreaterEqual))
+
+  abbrev reader : Reader Token (Open Selectors × Option Assigned)
+  reader = parts selectors_assign section_half W no_assign (λ x fits on. apart_none (these s.GreaterEqual))
+
+  abbrev spelled : Open Selectors × Option Assigned → List Token
+  spelled = parts_spell selectors_assign section_half W no_assign (λ x fits on. apart_none (these s.GreaterEqual))
+
+  abbrev said_front : Front Token
+  said_front = Said selectors_assign section_half W no_assign (λ x fits on. apart_none (these s.GreaterEqual))
+
+  abbrev after_part : Open Selectors × Option Assigned → List ℕ
+  after_part = after_followed_by (after_open after_half no_codes) (λ (x : Open Selectors). selectors_assign x.0) (λ (x : Open Selectors). assign_codes x.1) (λ x y. after_open after_without half_without y.1)
+
+  part_laws : Laws class_of reader spelled Part said_front (names ++ these s.LeftBracket) after_part false
+  part_laws = parts_laws selectors_assign section_half W no_assign (λ x fits on. apart_none (these s.GreaterEqual)) halves
+
+  -- ---- which trees
+
+  section_out : (x : Open Selectors) → section_half.Fits x → Section x.0
+  section_out (x, None) fits = section_half.none_out x fits
+  section_out (x, Some g) fits = section_half.some_out x g fits
+
+  value_out : (x : Open Expr) → W.Fits x → nodes.without.Fits x.0
+  value_out (x, None) fits = W.none_out x fits
+  value_out (x, Some g) fits = W.some_out x g fits
+
+  operator_out : (h : Option Place) (x : Operator) → OperatorFits h x → g.assigning.Fits x
+  operator_out None x fits = inl fits
+  operator_out (Some first) x (second, at, is) = inr ((first, second), (tt, tt), is)
+
+  abbrev Of : Place × (Selectors × Value) → Type 0
+  Of = (g.cascade_over nodes).Fits
+
+  abbrev make : Place × (Open Selectors × Option Assigned) → Open Cascade
+  make x = a_cascade x.0 x.1
+
+  abbrev Made_of : Open Cascade → Type 0
+  Made_of = Made make (BothFit Anything Part)
+
+  plain_of : (dots : Place) (x : Open Selectors) → section_half.Fits x → Of (dots, (x.0, t.omitted))
+  plain_of dots x fits = (tt, inl (section_out x fits, refl))
+
+  value_of : (dots : Place) (x : Open Selectors) (operator : Operator) (e : Open Expr) → section_half.Fits x → selectors_assign x.0 ≡ true → OperatorFits x.1 operator → W.Fits e → Of (dots, (x.0, t.given (Some operator) e.0))
+  value_of dots x operator e fits on known value = (tt, inr ((section_out x fits, on), ((operator, e.0), (operator_out x.1 operator known, value_out e value), refl)))
+
+  abbrev as_value : Place → Selectors → Value → Open Cascade
+  as_value dots x v = ((dots, (x, v)), None)
+
+  none_in : (c : Place × (Selectors × Value)) → Of c → Made_of (c, None)
+  none_in (dots, (x, v)) (at, inl (fits, is)) = ((dots, ((x, None), None)), (tt, (section_half.none_in x fits, refl)), ap (as_value dots x) (sym is))
+  none_in (dots, (x, v)) (at, inr ((fits, on), ((operator, e), (inl known, value), is))) = ((dots, ((x, None), Some (operator, (e, None)))), (tt, (section_half.none_in x fits, (on, (known, W.none_in e value)))), ap (as_value dots x) is)
+  none_in (dots, (x, v)) (at, inr ((fits, on), ((operator, e), (inr ((first, second), there, made), value), is))) =
+      ((dots, ((x, Some first), Some (operator, (e, None)))), (tt, (halves x first fits on, (on, ((second, tt, made), W.none_in e value)))), ap (as_value dots x) is)
+
+  none_out : (c : Place × (Selectors × Value)) → Made_of (c, None) → Of c
+  none_out c ((dots, ((x, None), None)), fits, e) = subst Of (ap tree e) (plain_of dots (x, None) fits.1.0)
+  none_out c ((dots, ((x, Some g), None)), fits, e) = no_some ((dots, (x, t.omitted)), Some g) (c, None) e refl refl
+  none_out c ((dots, (x, Some (operator, (v, None)))), fits, e) = subst Of (ap tree e) (value_of dots x operator (v, None) fits.1.0 fits.1.1.0 fits.1.1.1.0 fits.1.1.1.1)
+  none_out c ((dots, (x, Some (operator, (v, Some g)))), fits, e) = no_some ((dots, (x.0, t.given (Some operator) v)), Some g) (c, None) e refl refl
+
+  some_out : (c : Place × (Selectors × Value)) (g : Place) → Made_of (c, Some g) → Of c
+  some_out c g ((dots, ((x, None), None)), fits, e) = no_some (c, Some g) ((dots, (x, t.omitted)), None) (sym e) refl refl
+  some_out c g ((dots, ((x, Some h), None)), fits, e) = subst Of (ap tree e) (plain_of dots (x, Some h) fits.1.0)
+  some_out c g ((dots, (x, Some (operator, (v, None)))), fits, e) = no_some (c, Some g) ((dots, (x.0, t.given (Some operator) v)), None) (sym e) refl refl
+  some_out c g ((dots, (x, Some (operator, (v, Some h)))), fits, e) = subst Of (ap tree e) (value_of dots x operator (v, Some h) fits.1.0 fits.1.1.0 fits.1.1.1.0 fits.1.1.1.1)
+
+  -- ---- their tokens
+
+  made_said : (p : Place × (Open Selectors × Option Assigned)) → BothFit Anything Part p → open_spelling section_tokens (make p) ≡ both_spelling (sign_tokens s.DotDot) spelled p
+  unfolding value_tokens
+  made_said (dots, ((x, h), None)) fits = simp (append_assoc, append-nil)
+  made_said (dots, ((x, None), Some (operator, (e, h)))) fits =
+      let same : second_tokens operator ≡ operator_tokens operator = one_of_said assignment_signs operator fits.1.1.1.0 in
+      ap (λ (m : List Token). sign_tokens s.DotDot dots ++ m) (append_assoc (selectors_tokens x) (operator_tokens operator ++ expr_tokens e) (option_spelling half_tokens h) ∙ ap (λ (m : List Token). selectors_tokens x ++ m) (append_assoc (operator_tokens operator) (expr_tokens e) (option_spelling half_tokens h))
+      ∙ ap (λ (m : List Token). selectors_tokens x ++ (m ++ (expr_tokens e ++ option_spelling half_tokens h))) (sym same) ∙ ap (λ (m : List Token). m ++ (second_tokens operator ++ (expr_tokens e ++ option_spelling half_tokens h))) (sym (append-nil (selectors_tokens x))))
+  made_said (dots, ((x, Some g), Some (operator, (e, h)))) (at, (fits, (on, ((second, there, is), value)))) = subst (λ z. open_spelling section_tokens (make (dots, ((x, Some g), Some (z, (e, h))))) ≡ both_spelling (sign_tokens s.DotDot) spelled (dots, ((x, Some g), Some (z, (e, h))))) is (simp append_assoc)
+
+  made_on : (p : Place × (Open Selectors × Option Assigned)) → BothFit Anything Part p → Within (after_part p.1) (after_open after_cascade half_cascade (make p))
+  unfolding cascades_alone
+  made_on (dots, ((x, None), None)) fits = omitted_on dots x
+  made_on (dots, ((x, Some g), None)) fits = half_by (selectors_assign x) (λ next opens. cascades_take next opens question (one_cascade (dots, (x, t.omitted))))
+  made_on (dots, (x, Some (operator, e))) fits = value_on dots x.0 (Some operator) e
+
+  -- ---- their fronts
+
+  abbrev dotted : Front Token → Front Token
+  dotted f = Joint (sign_tokens s.DotDot) Anything always (l.sign s.DotDot).front f
+
+  out : (ts : List Token) → dotted said_front ts → (g.cascade_over nodes).front ts
+  out ts (inl f) = inl f
+  out ts (inr (dots, more, at, on, e, inl f)) = inr (dots, more, at, on, e, inl (inl f))
+  out ts (inr (dots, more, at, on, e, inr f)) = inr (dots, more, at, on, e, inr (inr f))
+
+  into : (ts : List Token) → (g.cascade_over nodes).front ts → dotted said_front ts
+  into ts (inl f) = inl f
+  into ts (inr (dots, more, at, on, e, inl (inl f))) = inr (dots, more, at, on, e, inl f)
+  into ts (inr (dots, more, at, on, e, inl (inr (x, rest, fits, go, e', none)))) = inr (dots, more, at, on, e, inl (subst section_front (sym (e' ∙ ap (λ (m : List Token). selectors_tokens x ++ m) none ∙ append-nil (selectors_tokens x))) ((section_laws N).whole x fits)))
+  into ts (inr (dots, more, at, on, e, inr (inl f))) = inr (dots, more, at, on, e, inl f)
+  into ts (inr (dots, more, at, on, e, inr (inr f))) = inr (dots, more, at, on, e, inr f)
+
+  -- ---- the reader
+
+  abbrev raw : Reader Token (Open Selectors × Option Assigned)
+  raw = continued_by class_of never always (λ (x : Open Selectors). given (selectors_assign x.0) (assign_codes x.1)) (halved selectors_assign (shut (section_over inner))) (λ x. assignment x.1 inner.without)
+
+  abbrev end_of : Place → Outcome Token (Open Selectors × Option Assigned) → Outcome Token (Open Cascade)
+  end_of dots r = and_then (and_then r (λ y z. Ok ((dots, y), z))) (λ x z. Ok (make x, z))
+
+  same_cascade : (r : Outcome Token Place) → and_then (and_then r (λ dots m. and_then (raw m) (λ y z. Ok ((dots, y), z)))) (λ x z. Ok (make x, z)) ≡ and_then (and_then r (λ dots m. and_then (reader m) (λ y z. Ok ((dots, y), z)))) (λ x z. Ok (make x, z))
+  same_cascade (Ok x) = ap (end_of x.0) (same_parts selectors_assign section_half W no_assign (λ y fits on. apart_none (these s.GreaterEqual)) x.1)
+  same_cascade (Err x) = refl
+
+  pub cascade_laws : OpenLaws (cascade_over inner) section_tokens Of (g.cascade_over nodes).front (these s.DotDot) after_cascade half_cascade
+  unfolding cascade_over
+  cascade_laws = record {
+    Fits = Made_of;
+    none_in = none_in;
+    none_out = none_out;
+    some_out = some_out;
+    laws = reread (refront (made_laws (both_laws (sign_reads s.DotDot) part_laws (λ place fits. apart_none _)) make (open_spelling section_tokens) (after_open after_cascade half_cascade) made_said made_on) out into) (λ ts. same_cascade (sign s.DotDot ts));
+  }

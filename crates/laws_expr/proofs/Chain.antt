@@ -1,0 +1,336 @@
+-- The law of a row of operators that stand behind one another (ECMA-408, 16.22 to 16.28), whatever its signs are.
+use Rattle.std.proofs.Common.{◌≡◌, ℕ, suc, max, ◌≤◌, ◌<◌, Bool, true, false, not, ◌&&◌, ◌||◌, List, [], ◌∷◌, ◌++◌, Option, None, Some, inl, inr, refl, ap, sym, ◌∙◌, subst, append_assoc, flat_map, arith}
+use Rattle.std.specs.Prelude.{nat_lt}
+use Rattle.std.proofs.Math.Nat.{le-max_right, max-le}
+use Rattle.std.proofs.lemmas.Bool.{ltb-true, lt-ltb}
+use Rattle.std.proofs.lemmas.List.{append-nil}
+use Rattle.std.specs.List.{AllByRecursion}
+use Rattle.dart_base.specs.declared.place.Place.{Place}
+use Rattle.dart_token.specs.declared.token.Token.{Token}
+use Rattle.dart_token.specs.declared.sign.Sign.{Sign}
+use Rattle.dart_token.specs.declared.sign.Sign.TheVariants as s
+use Rattle.dart_tree.specs.declared.operator.Operator.{Operator}
+use Rattle.dart_tree.specs.LeafTokens.{operator_tokens}
+use Rattle.dart_tree.specs.Depth.{operand_height}
+use Rattle.dart_tree.specs.Types.{TypeNode}
+use Rattle.dart_tree.specs.Tree as t
+use Rattle.dart_tree.specs.Tree.{Operand, Tails}
+use Rattle.dart_tree.specs.Tokens.{operand_tokens, tails_tokens}
+use Rattle.grammar_laws.specs.Codes.{Apart, Within, nowhere, given, has, is_empty, disjoint, within, after_list, after_followed}
+use Rattle.grammar_laws.specs.Readers.{Reader, always, some}
+use Rattle.grammar_laws.specs.Halves.{no_half}
+use Rattle.grammar_laws.specs.Fronts.{Front, Joint, Several, Either, EitherFit, BothFit, GoesOn, FollowedFit, SomeFit, EachFit, Made, both_spelling, joined_spelling, option_spelling}
+use Rattle.grammar_laws.specs.Laws.{Laws}
+use Rattle.grammar_laws.proofs.Codes.{apart, apart_none, apart_smaller, apart_union, and_both, and_true, or_left, or_right, clash, within_none, within_then, within_union, within_given, within_self, within_left, within_right}
+use Rattle.grammar_laws.proofs.Depth.{below_is, is_below_by}
+use Rattle.grammar_laws.proofs.Restated.{made_laws, refront}
+use Rattle.grammar_laws.proofs.Combined.{both_laws}
+use Rattle.grammar_laws.proofs.Followed.{followed_laws}
+use Rattle.grammar_laws.proofs.Repeated.{some_laws}
+use Rattle.dart_syntax.specs.Edges.{repeats, binds_between, leaves, opens_nothing, compares, operand_takes, tails_take}
+use Rattle.dart_syntax.specs.Edges as edge
+use Rattle.dart_syntax.specs.Expressions as g
+use Rattle.dart_syntax.specs.Levels.{level, sign_level}
+use Rattle.token_codes.specs.Codes.{class_of, sign_code, these, sign_codes}
+use Rattle.token_codes.specs.Leaves.{one_of}
+use Rattle.syntax_readers.specs.Combinators.{◌~◌, Open, with_half}
+use Rattle.syntax_readers.specs.Primaries.{operand_first}
+use Rattle.syntax_readers.specs.Levels.{Item, has_room, item_leaves, to_tails, joined, whole, chain}
+use Rattle.laws_expr.specs.Nexts.{Taking, nexts, taken, operand_alone, tails_alone, after_operand}
+use Rattle.laws_expr.proofs.Behind.{alone, operand_alone_within}
+use Rattle.laws_expr.proofs.Open.{OpenLaws, open_spelling, half_tokens, after_open, bare, tree, no_some}
+use Rattle.laws_expr.proofs.Edges.{at, codes_at, others_apart, apart_but, within_at, taken_moves, operand_moves}
+
+-- what may go on behind the half of an operator: its other half, an operand that is compared, or the rest of `> >=`
+abbrev pub half_of : Taking → List ℕ → List ℕ
+half_of takes own = given (takes (sign_level s.ShiftLeft) opens_nothing) (these s.Greater) ++ (given (takes compares opens_nothing) operand_first ++ given (has own (sign_code s.Assign)) (these s.GreaterEqual))
+
+abbrev pub half_operand : ℕ → Operand → List ℕ
+half_operand from x = half_of (λ next opens. operand_takes next opens from x) (operand_alone x)
+
+pub given_more : (b c : Bool) (xs : List ℕ) → (b ≡ true → c ≡ true) → Within (given b xs) (given c xs)
+given_more true true xs on = within_self xs
+given_more true false xs on = let bad : false ≡ true = on refl in absurd cc
+given_more false c xs on = within_none (given c xs)
+
+pub half_moves : (takes takes' : Taking) (own : List ℕ) → ((n : ℕ) (opens : TypeNode → Bool) → takes n opens ≡ true → takes' n opens ≡ true) → Within (half_of takes own) (half_of takes' own)
+half_moves takes takes' own on =
+    let shifts : List ℕ = given (takes' (sign_level s.ShiftLeft) opens_nothing) (these s.Greater) in
+    let compared : List ℕ = given (takes' compares opens_nothing) operand_first in
+    let assigned : List ℕ = given (has own (sign_code s.Assign)) (these s.GreaterEqual) in
+    within_union (within_then (given_more (takes (sign_level s.ShiftLeft) opens_nothing) (takes' (sign_level s.ShiftLeft) opens_nothing) (these s.Greater) (on (sign_level s.ShiftLeft) opens_nothing)) (within_left shifts (compared ++ assigned)))
+    (within_then (within_union (within_then (given_more (takes compares opens_nothing) (takes' compares opens_nothing) operand_first (on compares opens_nothing)) (within_left compared assigned)) (within_right compared assigned)) (within_right shifts (compared ++ assigned)))
+
+-- a looser place has all that a tighter one has
+pub looser : (from to : ℕ) (x : Operand) → to ≤ from → Within (after_operand from x) (after_operand to x)
+looser from to x le = within_union (within_then (taken_moves nexts (λ next opens. operand_takes next opens from x) (λ next opens. operand_takes next opens to x) (λ n opens h. operand_moves n opens x from to (inl le) h)) (within_left (taken (λ next opens. operand_takes next opens to x)) (operand_alone x)))
+    (within_right (taken (λ next opens. operand_takes next opens to x)) (operand_alone x))
+
+pub looser_half : (from to : ℕ) (x : Operand) → to ≤ from → Within (half_operand from x) (half_operand to x)
+looser_half from to x le = half_moves (λ next opens. operand_takes next opens from x) (λ next opens. operand_takes next opens to x) (operand_alone x) (λ n opens h. operand_moves n opens x from to (inl le) h)
+
+pub not_false : (b : Bool) → not b ≡ true → b ≡ false
+not_false true h = absurd cc
+not_false false h = refl
+
+-- what a tree leaves does not go on in a tighter place
+pub left_apart : (n from row : ℕ) (codes : List ℕ) (x : Operand) → n < from → others_apart row nexts codes ≡ true → ((takes : Taking) → at row nexts takes ≡ takes n opens_nothing) → disjoint alone codes ≡ true → leaves n x ≡ true → Apart (after_operand from x) codes
+left_apart n from row codes x lt others here own left =
+    apart_union (apart_but row nexts codes (λ next opens. operand_takes next opens from x) others (here (λ next opens. operand_takes next opens from x) ∙ off (operand_takes n opens_nothing from x) refl)) (apart_smaller (operand_alone_within x) (apart own)) where
+      off : (b : Bool) → operand_takes n opens_nothing from x ≡ b → operand_takes n opens_nothing from x ≡ false
+      off false e = e
+      off true e = clash (operand_takes n opens_nothing edge.nowhere x) (operand_moves n opens_nothing x from edge.nowhere (inr (inl lt)) e) (not_false (operand_takes n opens_nothing edge.nowhere x) left)
+
+-- ---- the row
+
+abbrev plain_spell : Operator × Operand → List Token
+plain_spell = both_spelling operator_tokens operand_tokens
+
+abbrev item_spell : Item → List Token
+item_spell = both_spelling operator_tokens (open_spelling operand_tokens)
+
+-- the operators and operands without the half behind the last
+abbrev drop : List Item → List (Operator × Operand)
+drop [] = []
+drop (x ∷ more) = (x.0, x.1.0) ∷ drop more
+
+abbrev keep : List (Operator × Operand) → List Item
+keep [] = []
+keep (x ∷ more) = (x.0, (x.1, None)) ∷ keep more
+
+tails_drop : (all : List Item) → g.to_tails (drop all) ≡ (to_tails all).0
+tails_drop [] = refl
+tails_drop (x ∷ more) = ap (t.tail x.0 x.1.0) (tails_drop more)
+
+tails_keep : (all : List (Operator × Operand)) → to_tails (keep all) ≡ (g.to_tails all, None)
+tails_keep [] = refl
+tails_keep (x ∷ []) = refl
+tails_keep (x ∷ y ∷ more) = ap (λ (z : Open Tails). (t.tail x.0 x.1 z.0, z.1)) (tails_keep (y ∷ more))
+
+empty_drop : (all : List Item) → is_empty (drop all) ≡ is_empty all
+empty_drop [] = refl
+empty_drop (x ∷ more) = refl
+
+empty_keep : (all : List (Operator × Operand)) → is_empty (keep all) ≡ is_empty all
+empty_keep [] = refl
+empty_keep (x ∷ more) = refl
+
+second_true : (h : Option Place) (x : Operand) (c : Bool) → (no_half (x, h) && c) ≡ true → (h ≡ None) × (c ≡ true)
+second_true None x c e = (refl, e)
+second_true (Some greater) x c e = absurd cc
+
+module _ (loose : ℕ) (n : ℕ) (signs : List Sign) (row : ℕ)
+    (others : others_apart row nexts (sign_codes signs) ≡ true) (own : within (sign_codes signs) (codes_at row nexts) ≡ true) (here_row : (takes : Taking) → at row nexts takes ≡ takes loose opens_nothing)
+    (apart_alone : disjoint alone (sign_codes signs) ≡ true) (again : repeats loose ≡ true)
+    {Of : Operator → Type 0} {ofront : Front Token} (O : Laws class_of (one_of signs) operator_tokens Of ofront (sign_codes signs) nowhere false) (leveled : (o : Operator) → Of o → level o ≡ loose)
+    {here : Reader Token (Open Operand)} {F : Operand → Type 0} {front : Front Token} {first : List ℕ} (H : OpenLaws here operand_tokens F front first (after_operand (suc loose)) (half_operand (suc loose)))
+    (lower : Reader Token (Open Operand)) {U : Operand → Type 0} {ufront : Front Token} {ufirst : List ℕ} (L : OpenLaws (whole lower) operand_tokens U ufront ufirst (after_operand (suc loose)) (half_operand (suc loose)))
+    {D : Operand → Type 0} {dfront : Front Token}
+    (down : (x : Operand) → F x → operand_height x < n → D x) (up : (x : Operand) → D x → F x × (operand_height x < n)) (rise : (ts : List Token) → dfront ts → front ts)
+    (rises : (x : Operand) → F x → operand_takes loose opens_nothing loose x ≡ true) where
+  abbrev codes : List ℕ
+  codes = sign_codes signs
+
+  abbrev may : Open Operand → Bool
+  may x = no_half x && has_room n x && leaves loose x.0
+
+  abbrev may_item : Item → Bool
+  may_item x = no_half x.1 && item_leaves loose x
+
+  abbrev ItemFits : Item → Type 0
+  ItemFits = BothFit Of L.Fits
+
+  abbrev PlainFits : Operator × Operand → Type 0
+  PlainFits = BothFit Of U
+
+  abbrev leaves_item : Operator × Operand → Bool
+  leaves_item x = leaves loose x.1
+
+  left : (x : Operand) → leaves loose x ≡ true → Apart (after_operand (suc loose) x) codes
+  left x h = left_apart loose (suc loose) row codes x (omega arith) others here_row apart_alone h
+
+  here_apart : (x : Open Operand) → H.Fits x → may x ≡ true → Apart (after_open (after_operand (suc loose)) (half_operand (suc loose)) x) codes
+  here_apart (x, None) fits on = left x (and_both (has_room n (x, None)) (leaves loose x) on).1
+  here_apart (x, Some greater) fits on = absurd cc
+
+  item_apart : (x : Item) → ItemFits x → may_item x ≡ true → Apart (after_open (after_operand (suc loose)) (half_operand (suc loose)) x.1) codes
+  item_apart (o, (x, None)) fits on = left x on
+  item_apart (o, (x, Some greater)) fits on = absurd cc
+
+  abbrev items_reader : Reader Token (List Item)
+  items_reader = some class_of may_item codes (one_of signs ~ whole lower)
+
+  abbrev ItemFront : Front Token
+  ItemFront = Joint operator_tokens Of always ofront ufront
+
+  items_laws : Laws class_of items_reader (flat_map item_spell) (SomeFit ItemFits may_item) (Several item_spell ItemFits may_item ItemFront) codes (after_list codes may_item (λ y. after_open (after_operand (suc loose)) (half_operand (suc loose)) y.1)) false
+  items_laws = some_laws (both_laws O L.laws (λ o fits. apart_none ufirst)) may_item item_apart
+
+  abbrev PartsFit : Open Operand × Option (List Item) → Type 0
+  PartsFit = FollowedFit H.Fits may (SomeFit ItemFits may_item)
+
+  -- ---- the grammar's node
+
+  abbrev Node : Operand → Type 0
+  Node = Made (λ (x : Operand × List (Operator × Operand)). t.binary x.0 (g.to_tails x.1)) (BothFit (GoesOn D (leaves loose)) (SomeFit PlainFits leaves_item))
+
+  abbrev NodeFront : Front Token
+  NodeFront = Joint operand_tokens D (leaves loose) dfront (Several plain_spell PlainFits leaves_item ItemFront)
+
+  low_out : (x : Open Operand) → L.Fits x → U x.0
+  low_out (x, None) fits = L.none_out x fits
+  low_out (x, Some greater) fits = L.some_out x greater fits
+
+  may_drop : (x : Item) (b : Bool) → (may_item x || b) ≡ true → (leaves loose x.1.0 || b) ≡ true
+  may_drop (o, (x, None)) b h = h
+  may_drop (o, (x, Some greater)) b h = or_right (leaves loose x) b h
+
+  each_drop : (all : List Item) → EachFit ItemFits may_item all → EachFit PlainFits leaves_item (drop all)
+  each_drop [] fits = tt
+  each_drop (x ∷ more) fits = ((fits.0.0, low_out x.1 fits.0.1), ap (λ b. leaves loose x.1.0 || b) (empty_drop more) ∙ may_drop x (is_empty more) fits.1, each_drop more fits.2)
+
+  each_keep : (all : List (Operator × Operand)) → EachFit PlainFits leaves_item all → EachFit ItemFits may_item (keep all)
+  each_keep [] fits = tt
+  each_keep (x ∷ more) fits = ((fits.0.0, L.none_in x.1 fits.0.1), ap (λ b. leaves loose x.1 || b) (empty_keep more) ∙ fits.1, each_keep more fits.2)
+
+  node_of : (x : Operand) (all : List Item) → H.Fits (x, None) → may (x, None) ≡ true → SomeFit ItemFits may_item all → Node (t.binary x (to_tails all).0)
+  node_of x all fits on items =
+      let w = and_both (has_room n (x, None)) (leaves loose x) on in
+      let f : F x = H.none_out x fits in
+      ((x, drop all), ((down x f (below_is operand_height n x w.0), w.1), (empty_drop all ∙ items.0, each_drop all items.1)), ap (t.binary x) (tails_drop all))
+
+  none_in : (z : Operand) → EitherFit F Node z → Made joined PartsFit (z, None)
+  none_in z (inl fits) = (((z, None), None), (H.none_in z fits, tt), refl)
+  none_in z (inr ((x, all), ((d, on), (some, each)), e)) =
+      let u = up x d in
+      (((x, None), Some (keep all)), (H.none_in x u.0, (and_true (has_room n (x, None)) (leaves loose x) (is_below_by operand_height n x u.1) on, (empty_keep all ∙ some, each_keep all each))), ap (with_half (t.binary x)) (tails_keep all) ∙ ap bare e)
+
+  none_out : (z : Operand) → Made joined PartsFit (z, None) → EitherFit F Node z
+  none_out z (((x, None), None), fits, e) = inl (subst F (ap tree e) (H.none_out x fits.0))
+  none_out z (((x, Some greater), None), fits, e) = no_some (x, Some greater) (z, None) e refl refl
+  none_out z (((x, None), Some all), fits, e) = inr (subst Node (ap tree e) (node_of x all fits.0 fits.1.0 fits.1.1))
+  none_out z (((x, Some greater), Some all), fits, e) = let bad : false ≡ true = fits.1.0 in absurd cc
+
+  some_out : (z : Operand) (greater : Place) → Made joined PartsFit (z, Some greater) → EitherFit F Node z
+  some_out z greater (((x, None), None), fits, e) = no_some (z, Some greater) (x, None) (sym e) refl refl
+  some_out z greater (((x, Some other), None), fits, e) = inl (subst F (ap tree e) (H.some_out x other fits.0))
+  some_out z greater (((x, None), Some all), fits, e) = inr (subst Node (ap tree e) (node_of x all fits.0 fits.1.0 fits.1.1))
+  some_out z greater (((x, Some other), Some all), fits, e) = let bad : false ≡ true = fits.1.0 in absurd cc
+
+  -- ---- the tokens
+
+  items_said : (all : List Item) → EachFit ItemFits may_item all → tails_tokens (to_tails all).0 ++ option_spelling half_tokens (to_tails all).1 ≡ flat_map item_spell all
+  unfolding tails_tokens
+  items_said [] fits = refl
+  items_said ((o, (x, h)) ∷ []) fits = simp (append_assoc, append-nil)
+  items_said ((o, (x, None)) ∷ y ∷ more) fits =
+      let own : List Token = operator_tokens o in
+      let tails : Open Tails = to_tails (y ∷ more) in
+      append_assoc own (operand_tokens x ++ tails_tokens tails.0) (option_spelling half_tokens tails.1)
+      ∙ ap (λ (m : List Token). own ++ m) (append_assoc (operand_tokens x) (tails_tokens tails.0) (option_spelling half_tokens tails.1) ∙ ap (λ (m : List Token). operand_tokens x ++ m) (items_said (y ∷ more) fits.2))
+      ∙ sym (append_assoc own (operand_tokens x ++ []) (flat_map item_spell (y ∷ more)) ∙ ap (λ (m : List Token). own ++ (m ++ flat_map item_spell (y ∷ more))) (append-nil (operand_tokens x)))
+  items_said ((o, (x, Some greater)) ∷ y ∷ more) fits = let bad : false ≡ true = fits.1 in absurd cc
+
+  parts_said : (x : Open Operand × Option (List Item)) → PartsFit x → open_spelling operand_tokens (joined x) ≡ joined_spelling (open_spelling operand_tokens) (flat_map item_spell) x
+  unfolding operand_tokens
+  parts_said (x, None) fits = sym (append-nil (open_spelling operand_tokens x))
+  parts_said ((x, None), Some all) fits = append_assoc (operand_tokens x) (tails_tokens (to_tails all).0) (option_spelling half_tokens (to_tails all).1) ∙ ap (λ (m : List Token). operand_tokens x ++ m) (items_said all fits.1.1.1) ∙ ap (λ (m : List Token). m ++ flat_map item_spell all) (sym (append-nil (operand_tokens x)))
+  parts_said ((x, Some greater), Some all) fits = let bad : false ≡ true = fits.1.0 in absurd cc
+
+  -- ---- what goes on
+
+  abbrev after_tails : Tails → List ℕ
+  after_tails x = taken (λ next opens. tails_take next opens loose x) ++ tails_alone x
+
+  abbrev half_tails : Tails → List ℕ
+  half_tails x = half_of (λ next opens. tails_take next opens loose x) (tails_alone x)
+
+  same_place : max loose (suc loose) ≡ suc loose
+  same_place = omega (arith, le-max_right loose (suc loose), max-le {a = loose} {b = suc loose} {k = suc loose} (omega arith) (omega arith))
+
+  last_takes : (o : Operator) (x : Operand) → level o ≡ loose → (next : ℕ) (opens : TypeNode → Bool) → operand_takes next opens (suc loose) x ≡ true → tails_take next opens loose (t.tail o x t.no_tails) ≡ true
+  unfolding tails_take
+  last_takes o x e next opens h =
+      or_right (binds_between next opens loose (level o)) ((binds_between next opens loose (suc (level o)) && repeats (level o)) || operand_takes next opens (max loose (suc (level o))) x)
+      (or_right (binds_between next opens loose (suc (level o)) && repeats (level o)) (operand_takes next opens (max loose (suc (level o))) x) (ap (λ (m : ℕ). operand_takes next opens m x) (ap (λ (m : ℕ). max loose (suc m)) e ∙ same_place) ∙ h))
+
+  own_binds : (m : ℕ) → binds_between m opens_nothing m (suc m) ≡ true
+  own_binds m = and_true (not (nat_lt m m)) (nat_lt m (suc m)) (not_below (nat_lt m m) refl) (lt-ltb m (suc m) (omega arith)) where
+    not_below : (b : Bool) → nat_lt m m ≡ b → not b ≡ true
+    not_below true e = absurd (omega (arith, ltb-true m m e))
+    not_below false e = refl
+
+  own_again : (o : Operator) (x : Operand) → level o ≡ loose → tails_take loose opens_nothing loose (t.tail o x t.no_tails) ≡ true
+  unfolding tails_take
+  own_again o x e =
+      or_right (binds_between loose opens_nothing loose (level o)) ((binds_between loose opens_nothing loose (suc (level o)) && repeats (level o)) || operand_takes loose opens_nothing (max loose (suc (level o))) x)
+      (or_left (binds_between loose opens_nothing loose (suc (level o)) && repeats (level o)) (operand_takes loose opens_nothing (max loose (suc (level o))) x)
+      (ap (λ (m : ℕ). binds_between loose opens_nothing loose (suc m) && repeats m) e ∙ and_true (binds_between loose opens_nothing loose (suc loose)) (repeats loose) (own_binds loose) again))
+
+  list_on : (all : List Item) → is_empty all ≡ false → EachFit ItemFits may_item all → Within (after_list codes may_item (λ (y : Item). after_open (after_operand (suc loose)) (half_operand (suc loose)) y.1) all) (after_open after_tails half_tails (to_tails all))
+  unfolding tails_take tails_alone
+  list_on [] some fits = absurd cc
+  list_on ((o, (x, None)) ∷ []) some fits =
+      let takes : Taking = λ next opens. tails_take next opens loose (t.tail o x t.no_tails) in
+      within_union (within_union (within_then (taken_moves nexts (λ next opens. operand_takes next opens (suc loose) x) takes (last_takes o x (leveled o fits.0.0))) (within_left (taken takes) (operand_alone x))) (within_right (taken takes) (operand_alone x)))
+      (within_given (leaves loose x) (λ e. within_then (within_at row nexts codes takes own (here_row takes ∙ own_again o x (leveled o fits.0.0))) (within_left (taken takes) (operand_alone x))))
+  list_on ((o, (x, Some greater)) ∷ []) some fits =
+      within_union (half_moves (λ next opens. operand_takes next opens (suc loose) x) (λ next opens. tails_take next opens loose (t.tail o x t.no_tails)) (operand_alone x) (last_takes o x (leveled o fits.0.0))) (within_none (half_of (λ next opens. tails_take next opens loose (t.tail o x t.no_tails)) (operand_alone x)))
+  list_on ((o, (x, h)) ∷ y ∷ []) some fits = list_on (y ∷ []) refl fits.2
+  list_on ((o, (x, h)) ∷ y ∷ z ∷ more) some fits = list_on (y ∷ z ∷ more) refl fits.2
+
+  parts_on : (x : Open Operand × Option (List Item)) → PartsFit x → Within (after_followed (after_open (after_operand (suc loose)) (half_operand (suc loose))) may codes (after_list codes may_item (λ (y : Item). after_open (after_operand (suc loose)) (half_operand (suc loose)) y.1)) x) (after_open (after_operand loose) (half_operand loose) (joined x))
+  unfolding operand_takes operand_alone
+  parts_on ((x, None), None) fits =
+      let takes : Taking = λ next opens. operand_takes next opens loose x in
+      within_union (looser (suc loose) loose x (omega arith)) (within_given (may (x, None)) (λ e. within_then (within_at row nexts codes takes own (here_row takes ∙ rises x (H.none_out x fits.0))) (within_left (taken takes) (operand_alone x))))
+  parts_on ((x, Some greater), None) fits = within_union (looser_half (suc loose) loose x (omega arith)) (within_none (half_operand loose x))
+  parts_on ((x, None), Some all) fits = items_on (to_tails all) refl where
+    items_on : (made : Open Tails) → made ≡ to_tails all → Within (after_list codes may_item (λ (y : Item). after_open (after_operand (suc loose)) (half_operand (suc loose)) y.1) all) (after_open (after_operand loose) (half_operand loose) (with_half (t.binary x) made))
+    items_on (tails, None) e = subst (λ (z : Open Tails). Within (after_list codes may_item (λ (y : Item). after_open (after_operand (suc loose)) (half_operand (suc loose)) y.1) all) (after_open after_tails half_tails z)) (sym e) (list_on all fits.1.1.0 fits.1.1.1)
+    items_on (tails, Some greater) e = subst (λ (z : Open Tails). Within (after_list codes may_item (λ (y : Item). after_open (after_operand (suc loose)) (half_operand (suc loose)) y.1) all) (after_open after_tails half_tails z)) (sym e) (list_on all fits.1.1.0 fits.1.1.1)
+  parts_on ((x, Some greater), Some all) fits = let bad : false ≡ true = fits.1.0 in absurd cc
+
+  -- ---- the fronts
+
+  go_drop : (all : List Item) → AllByRecursion (GoesOn ItemFits may_item) all → AllByRecursion (GoesOn PlainFits leaves_item) (drop all) × (flat_map item_spell all ≡ flat_map plain_spell (drop all))
+  go_drop [] go = (tt, refl)
+  go_drop ((o, (x, None)) ∷ more) go =
+      let w = go_drop more go.1 in
+      ((((go.0.0.0, L.none_out x go.0.0.1), go.0.1), w.0), ap (λ (m : List Token). (operator_tokens o ++ m) ++ flat_map item_spell more) (append-nil (operand_tokens x)) ∙ ap (λ (m : List Token). (operator_tokens o ++ operand_tokens x) ++ m) w.1)
+  go_drop ((o, (x, Some greater)) ∷ more) go = let bad : false ≡ true = go.0.1 in absurd cc
+
+  go_keep : (all : List (Operator × Operand)) → AllByRecursion (GoesOn PlainFits leaves_item) all → AllByRecursion (GoesOn ItemFits may_item) (keep all) × (flat_map plain_spell all ≡ flat_map item_spell (keep all))
+  go_keep [] go = (tt, refl)
+  go_keep (x ∷ more) go =
+      let w = go_keep more go.1 in
+      ((((go.0.0.0, L.none_in x.1 go.0.0.1), go.0.1), w.0), ap (λ (m : List Token). (operator_tokens x.0 ++ operand_tokens x.1) ++ m) w.1 ∙ ap (λ (m : List Token). (operator_tokens x.0 ++ m) ++ flat_map item_spell (keep more)) (sym (append-nil (operand_tokens x.1))))
+
+  abbrev PartsFront : Front Token
+  PartsFront = Joint (open_spelling operand_tokens) H.Fits may front (Several item_spell ItemFits may_item ItemFront)
+
+  out : (ts : List Token) → PartsFront ts → Either front NodeFront ts
+  out ts (inl f) = inl f
+  out ts (inr ((x, None), more, fits, on, e, (all, rest, go, e', f))) =
+      let w = and_both (has_room n (x, None)) (leaves loose x) on in
+      let d = go_drop all go in
+      inr (inr (x, more, down x (H.none_out x fits) (below_is operand_height n x w.0), w.1, e ∙ ap (λ (m : List Token). m ++ more) (append-nil (operand_tokens x)), (drop all, rest, d.0, e' ∙ ap (λ (m : List Token). m ++ rest) d.1, f)))
+  out ts (inr ((x, Some greater), more, fits, on, e, h)) = let bad : false ≡ true = on in absurd cc
+
+  into : (ts : List Token) → Either front NodeFront ts → PartsFront ts
+  into ts (inl f) = inl f
+  into ts (inr (inl f)) = inl (rise ts f)
+  into ts (inr (inr (x, more, d, on, e, (all, rest, go, e', f)))) =
+      let u = up x d in
+      let k = go_keep all go in
+      inr ((x, None), more, H.none_in x u.0, and_true (has_room n (x, None)) (leaves loose x) (is_below_by operand_height n x u.1) on, e ∙ ap (λ (m : List Token). m ++ more) (sym (append-nil (operand_tokens x))), (keep all, rest, k.0, e' ∙ ap (λ (m : List Token). m ++ rest) k.1, f))
+
+  pub chain_laws : OpenLaws (chain loose n signs here lower) operand_tokens (EitherFit F Node) (Either front NodeFront) first (after_operand loose) (half_operand loose)
+  unfolding chain
+  chain_laws = record {
+    Fits = Made joined PartsFit;
+    none_in = none_in;
+    none_out = none_out;
+    some_out = some_out;
+    laws = refront (made_laws (followed_laws H.laws items_laws may here_apart) joined (open_spelling operand_tokens) (after_open (after_operand loose) (half_operand loose)) parts_said parts_on) out into;
+  }

@@ -1,0 +1,95 @@
+-- The law of the reader of primaries (ECMA-408, 16 Expressions), over that of what begins with a parenthesis.
+use Rattle.std.proofs.Common.{◌≡◌, false, Option, None, Some, inl, inr, refl}
+use Rattle.dart_base.specs.declared.place.Place.{Place}
+use Rattle.dart_token.specs.declared.token.Token.{Token}
+use Rattle.dart_token.specs.declared.sign.Sign.TheVariants as s
+use Rattle.dart_token.specs.declared.word.Word.TheVariants as w
+use Rattle.dart_tree.specs.Tree as t
+use Rattle.dart_tree.specs.Tree.{Primary, Selector, Pieces}
+use Rattle.dart_tree.specs.Tokens.{primary_tokens, selector_tokens}
+use Rattle.grammar_laws.specs.Codes.{Within, nowhere, after_followed}
+use Rattle.grammar_laws.specs.Readers.{always, mapped}
+use Rattle.grammar_laws.specs.Halves.{strict}
+use Rattle.grammar_laws.specs.Fronts.{Front, Either, EitherFit, BothFit, FollowedFit, Made, joined_spelling}
+use Rattle.grammar_laws.specs.Laws.{Laws}
+use Rattle.grammar_laws.proofs.Codes.{apart, apart_none, within_none, within_self, within_right}
+use Rattle.grammar_laws.proofs.Restated.{made_laws, mapped_laws, wider}
+use Rattle.grammar_laws.proofs.Followed.{followed_laws}
+use Rattle.dart_syntax.specs.Phrases.{Phrase, ◌~◌, Anything, made}
+use Rattle.dart_syntax.specs.Leaves as l
+use Rattle.dart_syntax.specs.Edges.{operand_takes}
+use Rattle.dart_syntax.specs.Edges as edge
+use Rattle.dart_syntax.specs.Expressions as g
+use Rattle.token_codes.specs.Codes.{class_of, atoms, creations, these, this_word}
+use Rattle.token_codes.specs.Reads.{Reads}
+use Rattle.token_codes.specs.Leaves.{atom}
+use Rattle.token_codes.proofs.Leaves.{word_reads}
+use Rattle.syntax_readers.specs.Primaries.{ExprReaders, string_first, strings, selector_first, a_super, super, object, parenthesis, primary}
+use Rattle.laws_expr.specs.Nexts.{taken, primary_alone, after_primary}
+use Rattle.laws_expr.specs.Statements.{collection_first, objects_over}
+use Rattle.laws_expr.proofs.Known.{ClosedRead}
+use Rattle.laws_expr.proofs.Leaves.{atom_reads}
+use Rattle.laws_expr.proofs.Strings.{strings_laws}
+use Rattle.laws_expr.proofs.Selectors.{selector_laws}
+use Rattle.laws_expr.proofs.Objects.{NamesDot, object_laws}
+use Rattle.laws_expr.proofs.Open.{OpenLaws, shut_laws, open_by_first_laws}
+use Rattle.laws_expr.proofs.Functions.{half_primary}
+use Rattle.laws_expr.proofs.Unary.{primary_first}
+
+-- a primary that goes on with what it alone goes on with
+alone_on : (x : Primary) → Within (primary_alone x) (after_primary x)
+alone_on x = within_right (taken (λ next opens. operand_takes next opens edge.nowhere (t.primary x))) (primary_alone x)
+
+module _ {here : ExprReaders} {nodes : g.ExprNodes} (N : ClosedRead here nodes) (D : NamesDot nodes.type) where
+  -- ---- `super`, alone or with a selector
+
+  abbrev Bare : Primary → Type 0
+  Bare = Made t.bare_super Anything
+
+  abbrev Access : Primary → Type 0
+  Access = Made (λ (x : Place × Selector). t.super_access x.0 x.1) (BothFit Anything (g.selector_of nodes).Fits)
+
+  abbrev super_front : Front Token
+  super_front = (l.word w.Super ~ g.selector_of nodes).front
+
+  super_forth : (x : Place × Option Selector) → FollowedFit Anything always (g.selector_of nodes).Fits x → EitherFit Access Bare (a_super x) × (primary_tokens (a_super x) ≡ joined_spelling (l.word w.Super).spelling (g.selector_of nodes).spelling x) × Within (after_followed nowhere always selector_first nowhere x) (after_primary (a_super x))
+  unfolding primary_tokens primary_alone selector_tokens
+  super_forth (word, None) fits = (inr (word, tt, refl), refl, alone_on (t.bare_super word))
+  super_forth (word, Some x) fits = (inl ((word, x), (tt, fits.1.1), refl), refl, within_none _)
+
+  super_back : (y : Primary) → EitherFit Access Bare y → (x : Place × Option Selector) × FollowedFit Anything always (g.selector_of nodes).Fits x × (a_super x ≡ y)
+  super_back y (inl ((word, x), fits, is)) = ((word, Some x), (tt, (refl, fits.1)), is)
+  super_back y (inr (word, fits, is)) = ((word, None), (tt, tt), is)
+
+  super_laws : Laws class_of (super here) primary_tokens (EitherFit Access Bare) super_front (this_word w.Super) after_primary false
+  unfolding super
+  super_laws = mapped_laws (followed_laws (word_reads w.Super) (selector_laws N) always (λ x fits on. apart_none selector_first)) a_super primary_tokens after_primary super_forth super_back
+
+  -- ---- atoms, strings, objects, lists and maps
+
+  abbrev Atoms : Phrase Primary
+  Atoms = made primary_tokens t.atom l.atom
+
+  abbrev Texts : Phrase Primary
+  Texts = made primary_tokens t.text (g.strings nodes.expr)
+
+  atom_laws : Reads (mapped t.atom atom) Atoms atoms after_primary false
+  unfolding primary_tokens
+  atom_laws = made_laws atom_reads t.atom primary_tokens after_primary (λ x fits. refl) (λ x fits. within_none _)
+
+  text_laws : Reads (mapped t.text (strings (strict here.expr))) Texts string_first after_primary false
+  unfolding primary_tokens primary_alone
+  text_laws = made_laws (strings_laws N.expr N.agrees.expr) t.text primary_tokens after_primary (λ x fits. refl) (λ x fits. alone_on (t.text x))
+
+  objects_laws : Laws class_of (object here) primary_tokens (objects_over nodes).Fits (objects_over nodes).front creations after_primary false
+  objects_laws = wider (object_laws N D) (within_self creations) (λ x fits. within_none (after_primary x))
+
+  module _ {C : Primary → Type 0} {cfront : Front Token} (Collections : Laws class_of here.collection primary_tokens C cfront collection_first nowhere false)
+      {P : Primary → Type 0} {pfront : Front Token} (Parenthesis : OpenLaws (parenthesis here) primary_tokens P pfront (these s.LeftParenthesis) after_primary half_primary) where
+    pub primary_laws : OpenLaws (primary here) primary_tokens
+        (EitherFit Atoms.Fits (EitherFit Texts.Fits (EitherFit (EitherFit Access Bare) (EitherFit (objects_over nodes).Fits (EitherFit P C)))))
+        (Either Atoms.front (Either Texts.front (Either super_front (Either (objects_over nodes).front (Either pfront cfront)))))
+        primary_first after_primary half_primary
+    unfolding primary
+    primary_laws = open_by_first_laws (shut_laws atom_laws half_primary) (open_by_first_laws (shut_laws text_laws half_primary) (open_by_first_laws (shut_laws super_laws half_primary) (open_by_first_laws (shut_laws objects_laws half_primary)
+        (open_by_first_laws Parenthesis (shut_laws (wider Collections (within_self collection_first) (λ x fits. within_none (after_primary x))) half_primary) (apart refl)) (apart refl)) (apart refl)) (apart refl)) (apart refl)

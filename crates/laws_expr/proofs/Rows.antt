@@ -1,0 +1,109 @@
+-- The rows of the grammar's table whose operators are one sign each: each shape has one law.
+use Rattle.std.proofs.Common.{◌≡◌, ℕ, suc, ◌<◌, true, not, List, [], ◌∷◌, inl, inr, refl, ap, sym, ◌∙◌}
+use Rattle.dart_token.specs.declared.token.Token.{Token}
+use Rattle.dart_token.specs.declared.sign.Sign.{Sign}
+use Rattle.dart_token.specs.declared.sign.Sign.TheVariants as s
+use Rattle.dart_tree.specs.declared.operator.Operator.{Operator}
+use Rattle.dart_tree.specs.Depth.{operand_height}
+use Rattle.dart_tree.specs.Tree.{Operand}
+use Rattle.dart_tree.specs.Tokens.{operand_tokens}
+use Rattle.grammar_laws.specs.Codes.{disjoint, within}
+use Rattle.grammar_laws.specs.Readers.{Reader}
+use Rattle.grammar_laws.specs.Fronts.{Front, Either, EitherFit, GoodFit}
+use Rattle.grammar_laws.proofs.Codes.{apart}
+use Rattle.dart_syntax.specs.Phrases.{Phrase}
+use Rattle.dart_syntax.specs.Leaves as l
+use Rattle.dart_syntax.specs.Edges.{repeats, opens_nothing, operand_takes}
+use Rattle.dart_syntax.specs.Expressions as g
+use Rattle.dart_syntax.specs.Levels.{level, sign_level}
+use Rattle.token_codes.specs.Codes.{sign_codes}
+use Rattle.token_codes.proofs.Leaves.{Distinct, one_of_reads}
+use Rattle.syntax_readers.specs.Combinators.{Open}
+use Rattle.syntax_readers.specs.Primaries.{ExprReaders}
+use Rattle.syntax_readers.specs.Levels.{whole, is_bare, row_over}
+use Rattle.laws_expr.specs.Nexts.{Taking, nexts, after_operand}
+use Rattle.laws_expr.proofs.Behind.{alone}
+use Rattle.laws_expr.proofs.Open.{OpenLaws}
+use Rattle.laws_expr.proofs.Edges.{at, codes_at, others_apart}
+use Rattle.laws_expr.proofs.Chain.{half_operand, chain_laws}
+use Rattle.laws_expr.proofs.Once.{once_laws}
+
+-- these signs are one row of the table of what goes on, and bind alike
+pub record IsRow (signs : List Sign) (loose row : ℕ) : Type 0 where
+  pub others : others_apart row nexts (sign_codes signs) ≡ true
+  pub own : within (sign_codes signs) (codes_at row nexts) ≡ true
+  pub here : (takes : Taking) → at row nexts takes ≡ takes loose opens_nothing
+  pub apart_alone : disjoint alone (sign_codes signs) ≡ true
+  pub distinct : Distinct signs
+  pub leveled : (o : Operator) → (l.one_of signs).Fits o → level o ≡ loose
+
+abbrev Leveled : List Sign → ℕ → Type 0
+Leveled [] loose = Unit {0}
+Leveled (x ∷ more) loose = (sign_level x ≡ loose) × Leveled more loose
+
+all_level : (signs : List Sign) (loose : ℕ) → Leveled signs loose → (o : Operator) → (l.one_of signs).Fits o → level o ≡ loose
+all_level [] loose known o fits = absurd fits
+all_level (x ∷ more) loose known o (inl (place, fits, is)) = ap level (sym is) ∙ known.0
+all_level (x ∷ more) loose known o (inr fits) = all_level more loose known.1 o fits
+
+pub products : IsRow (s.Star ∷ s.Slash ∷ s.TildeSlash ∷ s.Percent ∷ []) 11 12
+products = record { others = refl; own = refl; here = λ takes. refl; apart_alone = refl; distinct = (apart refl, (apart refl, (apart refl, (apart refl, tt)))); leveled = all_level (s.Star ∷ s.Slash ∷ s.TildeSlash ∷ s.Percent ∷ []) 11 (refl, (refl, (refl, (refl, tt)))) }
+
+pub sums : IsRow (s.Plus ∷ s.Minus ∷ []) 10 11
+sums = record { others = refl; own = refl; here = λ takes. refl; apart_alone = refl; distinct = (apart refl, (apart refl, tt)); leveled = all_level (s.Plus ∷ s.Minus ∷ []) 10 (refl, (refl, tt)) }
+
+pub conjunctions : IsRow (s.Ampersand ∷ []) 8 9
+conjunctions = record { others = refl; own = refl; here = λ takes. refl; apart_alone = refl; distinct = (apart refl, tt); leveled = all_level (s.Ampersand ∷ []) 8 (refl, tt) }
+
+pub exclusions : IsRow (s.Caret ∷ []) 7 8
+exclusions = record { others = refl; own = refl; here = λ takes. refl; apart_alone = refl; distinct = (apart refl, tt); leveled = all_level (s.Caret ∷ []) 7 (refl, tt) }
+
+pub disjunctions : IsRow (s.Bar ∷ []) 6 7
+disjunctions = record { others = refl; own = refl; here = λ takes. refl; apart_alone = refl; distinct = (apart refl, tt); leveled = all_level (s.Bar ∷ []) 6 (refl, tt) }
+
+pub equalities : IsRow (s.EqualEqual ∷ s.NotEqual ∷ []) 4 4
+equalities = record { others = refl; own = refl; here = λ takes. refl; apart_alone = refl; distinct = (apart refl, (apart refl, tt)); leveled = all_level (s.EqualEqual ∷ s.NotEqual ∷ []) 4 (refl, (refl, tt)) }
+
+pub both_hold : IsRow (s.AndAnd ∷ []) 3 3
+both_hold = record { others = refl; own = refl; here = λ takes. refl; apart_alone = refl; distinct = (apart refl, tt); leveled = all_level (s.AndAnd ∷ []) 3 (refl, tt) }
+
+pub one_holds : IsRow (s.OrOr ∷ []) 2 2
+one_holds = record { others = refl; own = refl; here = λ takes. refl; apart_alone = refl; distinct = (apart refl, tt); leveled = all_level (s.OrOr ∷ []) 2 (refl, tt) }
+
+-- ---- what is asked of the operands of a row: those here, and those one node less deep
+
+pub record Operands (n loose : ℕ) (here lower : Reader Token (Open Operand)) (F U D : Operand → Type 0) (front ufront dfront : Front Token) (first ufirst : List ℕ) : Type 1 where
+  pub above : OpenLaws here operand_tokens F front first (after_operand (suc loose)) (half_operand (suc loose))
+  pub below : OpenLaws (whole lower) operand_tokens U ufront ufirst (after_operand (suc loose)) (half_operand (suc loose))
+  -- those that have room for the operator's node stand one node less deep, and there begin what begins here
+  pub down : (x : Operand) → F x → operand_height x < n → D x
+  pub up : (x : Operand) → D x → F x × (operand_height x < n)
+  pub rise : (ts : List Token) → dfront ts → front ts
+  -- an operator of the row may follow each
+  pub rises : (x : Operand) → F x → operand_takes loose opens_nothing loose x ≡ true
+
+-- operands of a row, which have their own tokens
+abbrev pub operands : (Operand → Type 0) → Front Token → Phrase Operand
+operands U ufront = record { spelling = operand_tokens; Fits = U; front = ufront }
+
+module _ {n : ℕ} (inner : ExprReaders) (nodes : g.ExprNodes) {here lower : Reader Token (Open Operand)} {F U : Operand → Type 0} {front ufront : Front Token} {first ufirst : List ℕ} where
+  -- rows of any number of operators, where `super` may be the first operand
+  pub chained_laws : (sign : Sign) (more : List Sign) (row : ℕ) → IsRow (sign ∷ more) (sign_level sign) row → repeats (sign_level sign) ≡ true →
+      Operands n (sign_level sign) here lower F U (EitherFit U nodes.bare.Fits) front ufront (Either ufront nodes.bare.front) first ufirst →
+      OpenLaws (row_over n inner (g.chained sign more) here lower) operand_tokens (EitherFit F (g.row_over (g.chained sign more) nodes (operands U ufront)).Fits) (Either front (g.row_over (g.chained sign more) nodes (operands U ufront)).front) first (after_operand (sign_level sign)) (half_operand (sign_level sign))
+  unfolding row_over
+  chained_laws sign more row is again O = chain_laws (sign_level sign) n (sign ∷ more) row is.others is.own is.here is.apart_alone again (one_of_reads (sign ∷ more) is.distinct) is.leveled O.above lower O.below O.down O.up O.rise O.rises
+
+  -- and without it
+  pub logical_laws : (sign : Sign) (row : ℕ) → IsRow (sign ∷ []) (sign_level sign) row → repeats (sign_level sign) ≡ true →
+      Operands n (sign_level sign) here lower F U U front ufront ufront first ufirst →
+      OpenLaws (row_over n inner (g.logical sign) here lower) operand_tokens (EitherFit F (g.row_over (g.logical sign) nodes (operands U ufront)).Fits) (Either front (g.row_over (g.logical sign) nodes (operands U ufront)).front) first (after_operand (sign_level sign)) (half_operand (sign_level sign))
+  unfolding row_over
+  logical_laws sign row is again O = chain_laws (sign_level sign) n (sign ∷ []) row is.others is.own is.here is.apart_alone again (one_of_reads (sign ∷ []) is.distinct) is.leveled O.above lower O.below O.down O.up O.rise O.rises
+
+  -- a row of one operator at most, behind which `super` alone is refused
+  pub single_laws : (sign : Sign) (more : List Sign) (row : ℕ) → IsRow (sign ∷ more) (sign_level sign) row →
+      Operands n (sign_level sign) here lower F U (EitherFit U nodes.bare.Fits) front ufront (Either ufront nodes.bare.front) first ufirst →
+      OpenLaws (row_over n inner (g.single sign more) here lower) operand_tokens (GoodFit (EitherFit F (g.row_over (g.single sign more) nodes (operands U ufront)).Fits) (λ x. not (is_bare x))) (Either front (g.row_over (g.single sign more) nodes (operands U ufront)).front) first (after_operand (sign_level sign)) (half_operand (sign_level sign))
+  unfolding row_over
+  single_laws sign more row is O = once_laws (sign_level sign) n (sign ∷ more) row is.others is.own is.here is.apart_alone (one_of_reads (sign ∷ more) is.distinct) is.leveled O.above lower O.below O.down O.up O.rise O.rises
