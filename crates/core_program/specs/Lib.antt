@@ -1,0 +1,12 @@
+pub mod Core
+pub mod Program
+pub mod View
+pub mod Named
+pub mod ProgramView
+pub mod Alike
+pub mod Stripped
+pub mod Captured
+pub mod Jumps
+pub mod Valid
+pub mod Loose
+pub mod Seeking
