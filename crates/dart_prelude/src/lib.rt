@@ -1,0 +1,4 @@
+// The texts of the libraries that come with the language.
+#![tactic(auto)]
+
+pub mod texts;

@@ -1,0 +1,4 @@
+pub mod Head
+pub mod Mention
+pub mod Text
+pub mod Written
