@@ -1,0 +1,4 @@
+pub mod Graphs
+pub mod Reached
+pub mod Found
+pub mod Acyclic

@@ -1,0 +1,4 @@
+pub mod Order
+pub mod Rows
+-- means of proof
+pub mod Walk

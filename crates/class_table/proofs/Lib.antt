@@ -1,0 +1,14 @@
+pub mod Views
+pub mod Formed
+pub mod Lists
+pub mod Rowed
+pub mod Numbered
+pub mod Listed
+pub mod Supers
+pub mod Called
+pub mod Added
+pub mod Instanced
+pub mod Mixed
+pub mod Membered
+pub mod Tabled
+pub mod Tested
