@@ -4,3 +4,4 @@
 pub mod check;
 pub mod erased;
 pub mod fault;
+pub mod unit;

@@ -68,12 +68,12 @@ pub lexical_stop : (text : List ℕ) (fault : LexFault) → (fault ≡ lf.Memory
 lexical_stop text fault (inl is) = rw is tt
 lexical_stop text fault (inr reason) = lexical_reason text fault (lexical_refusal fault) refl reason
 
-syntax_reason : (text : List ℕ) (fault : ParseFault) (why : Option Refusal) → syntax_refusal fault ≡ why → IsNoUnit text fault → Stops (SyntaxRefuses text) (stop_for why)
+syntax_reason : (text : List ℕ) (fault : ParseFault) (why : Option Refusal) → syntax_refusal fault ≡ why → IsNoUnit 0 text fault → Stops (SyntaxRefuses text) (stop_for why)
 syntax_reason text fault (Some why) e no_unit = (fault, no_unit, e)
 syntax_reason text fault None e no_unit = tt
 
 -- a fault of the parser is a reason, or want of memory
-pub syntax_stop : (text : List ℕ) (fault : ParseFault) → IsNoUnit text fault → Stops (SyntaxRefuses text) (stop_for (syntax_refusal fault))
+pub syntax_stop : (text : List ℕ) (fault : ParseFault) → IsNoUnit 0 text fault → Stops (SyntaxRefuses text) (stop_for (syntax_refusal fault))
 syntax_stop text fault no_unit = syntax_reason text fault (syntax_refusal fault) refl no_unit
 
 -- what is a reason of one kind is one of another
@@ -81,7 +81,7 @@ pub stops_by : (IsOne IsAnother : Refusal → Type 0) (stop : Stop) → ((why : 
 stops_by IsOne IsAnother (Refused why) by is = by why is
 stops_by IsOne IsAnother Memory by is = tt
 
-pub fault_stop : (text : List ℕ) (fault : TextFault) → HasFault text fault → Stops (IsNoUnitFor text) (stop_for (text_refusal fault))
+pub fault_stop : (text : List ℕ) (fault : TextFault) → HasFault 0 text fault → Stops (IsNoUnitFor text) (stop_for (text_refusal fault))
 fault_stop text (t.Lexis fault) has = stops_by (LexisRefuses text) (IsNoUnitFor text) (stop_for (lexical_refusal fault)) (λ why is. inl is) (lexical_stop text fault has)
 fault_stop text (t.Syntax fault) has = stops_by (SyntaxRefuses text) (IsNoUnitFor text) (stop_for (syntax_refusal fault)) (λ why is. inr is) (syntax_stop text fault has)
 fault_stop text t.Memory has = tt

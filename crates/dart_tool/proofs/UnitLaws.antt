@@ -61,7 +61,7 @@ one_reason_for text a b (inr x) (inl y) = absurd (syntax_or_lexis text a b x y)
 one_reason_for text a b (inr x) (inr y) = one_syntax_refusal text a b x y
 
 -- a text that is a unit is refused for none
-pub unit_unrefused : (text : List ℕ) (unit : UnitTree) (why : Refusal) → IsUnit text unit → IsNoUnitFor text why → ⊥
+pub unit_unrefused : (text : List ℕ) (unit : UnitTree) (why : Refusal) → IsUnit 0 text unit → IsNoUnitFor text why → ⊥
 unit_unrefused text unit why (tokens, spelled, is) (inl (fault, reason, e)) = spelled_or_refused 0 text tokens fault spelled reason
 unit_unrefused text unit why (tokens, spelled, is) (inr (fault, (others, also, h), e)) =
     let (reason, so, x) = found_reason others fault why h e in
@@ -69,7 +69,7 @@ unit_unrefused text unit why (tokens, spelled, is) (inr (fault, (others, also, h
     let both : ◌≡◌ {A = Result UnitTree SyntaxReason} (Ok unit) (Err reason) = sym is ∙ ap found same ∙ so in
     cc
 
-one_unit : (text : List ℕ) (a b : UnitTree) → IsUnit text a → IsUnit text b → a ≡ b
+one_unit : (text : List ℕ) (a b : UnitTree) → IsUnit 0 text a → IsUnit 0 text b → a ≡ b
 one_unit text a b (tokens, spelled, is) (others, also, so) =
     let same : tokens ≡ others = one_spelling 0 text tokens others spelled also in
     let both : ◌≡◌ {A = Result UnitTree SyntaxReason} (Ok a) (Ok b) = sym is ∙ ap found same ∙ so in

@@ -23,7 +23,7 @@ LexisRefuses text why =
 -- The text spells tokens that are no unit, for this reason.
 abbrev pub SyntaxRefuses : List ℕ → Refusal → Type 0
 SyntaxRefuses text why =
-    (fault : ParseFault) × IsNoUnit text fault × (syntax_refusal fault ≡ Some why)
+    (fault : ParseFault) × IsNoUnit 0 text fault × (syntax_refusal fault ≡ Some why)
 
 -- The text is no unit, for this reason.
 abbrev pub IsNoUnitFor : List ℕ → Refusal → Type 0
