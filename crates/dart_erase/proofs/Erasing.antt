@@ -72,11 +72,11 @@ pub erasing_binary : (first : Box Operand Global) (more : Vec Tail Global) → e
 unfolding erased.operand
 erasing_binary first more = ap erased.operand (view_binary first more)
 
-pub erasing_is_type : (first : Box Operand Global) (word : Place) (bang : Option Place) (kind : TypeNode) → erased.operand (view.operand (o.Is first word bang kind)) ≡ t.is_type (erased.operand (view.operand first.value)) word bang (view.type_node kind)
+pub erasing_is_type : (first : Box Operand Global) (word : Place) (bang : Option Place) (kind : Box TypeNode Global) → erased.operand (view.operand (o.Is first word bang kind)) ≡ t.is_type (erased.operand (view.operand first.value)) word bang (view.type_node kind.value)
 unfolding erased.operand
 erasing_is_type first word bang kind = ap erased.operand (view_is_type first word bang kind)
 
-pub erasing_as_type : (first : Box Operand Global) (word : Place) (kind : TypeNode) → erased.operand (view.operand (o.As first word kind)) ≡ t.as_type (erased.operand (view.operand first.value)) word (view.type_node kind)
+pub erasing_as_type : (first : Box Operand Global) (word : Place) (kind : Box TypeNode Global) → erased.operand (view.operand (o.As first word kind)) ≡ t.as_type (erased.operand (view.operand first.value)) word (view.type_node kind.value)
 unfolding erased.operand
 erasing_as_type first word kind = ap erased.operand (view_as_type first word kind)
 
@@ -84,7 +84,7 @@ pub erasing_prefix : (operator : Operator) (first : Box Operand Global) → eras
 unfolding erased.operand
 erasing_prefix operator first = ap erased.operand (view_prefix operator first)
 
-pub erasing_postfix : (first : Primary) (more : Vec Selector Global) (operator : Option Operator) → erased.operand (view.operand (o.Postfix first more operator)) ≡ t.postfix (erased.primary (view.primary first)) (erased.selectors (selectors_of more.items)) operator
+pub erasing_postfix : (first : Box Primary Global) (more : Vec Selector Global) (operator : Option Operator) → erased.operand (view.operand (o.Postfix first more operator)) ≡ t.postfix (erased.primary (view.primary first.value)) (erased.selectors (selectors_of more.items)) operator
 unfolding erased.operand
 erasing_postfix first more operator = ap erased.operand (view_postfix first more operator)
 
@@ -108,19 +108,19 @@ pub erasing_text : (all : Vec StringPiece Global) → erased.primary (view.prima
 unfolding erased.primary
 erasing_text all = ap erased.primary (view_text all)
 
-pub erasing_list_literal : (kinds : TypeArguments) (opening : Place) (all : Vec Item Global) (comma : Option Place) (closing : Place) → erased.primary (view.primary (p.List kinds opening all comma closing)) ≡ t.list_literal (view.type_arguments kinds) opening (erased.items (items_of all.items)) comma closing
+pub erasing_list_literal : (kinds : Box TypeArguments Global) (opening : Place) (all : Vec Item Global) (comma : Option Place) (closing : Place) → erased.primary (view.primary (p.List kinds opening all comma closing)) ≡ t.list_literal (view.type_arguments kinds.value) opening (erased.items (items_of all.items)) comma closing
 unfolding erased.primary
 erasing_list_literal kinds opening all comma closing = ap erased.primary (view_list_literal kinds opening all comma closing)
 
-pub erasing_map_literal : (kinds : TypeArguments) (opening : Place) (all : Vec Entry Global) (comma : Option Place) (closing : Place) → erased.primary (view.primary (p.Map kinds opening all comma closing)) ≡ t.map_literal (view.type_arguments kinds) opening (erased.entries (entries_of all.items)) comma closing
+pub erasing_map_literal : (kinds : Box TypeArguments Global) (opening : Place) (all : Vec Entry Global) (comma : Option Place) (closing : Place) → erased.primary (view.primary (p.Map kinds opening all comma closing)) ≡ t.map_literal (view.type_arguments kinds.value) opening (erased.entries (entries_of all.items)) comma closing
 unfolding erased.primary
 erasing_map_literal kinds opening all comma closing = ap erased.primary (view_map_literal kinds opening all comma closing)
 
-pub erasing_new_object : (creation : Creation) (class : TypeNode) (constructor : Option DotName) (args : Arguments) → erased.primary (view.primary (p.New creation class constructor args)) ≡ t.new_object creation (view.type_node class) constructor (erased.arguments (view.arguments args))
+pub erasing_new_object : (creation : Creation) (class : Box TypeNode Global) (constructor : Box (Option DotName) Global) (args : Box Arguments Global) → erased.primary (view.primary (p.New creation class constructor args)) ≡ t.new_object creation (view.type_node class.value) constructor.value (erased.arguments (view.arguments args.value))
 unfolding erased.primary
 erasing_new_object creation class constructor args = ap erased.primary (view_new_object creation class constructor args)
 
-pub erasing_function_literal : (params : Parameters) (inner : Body) → erased.primary (view.primary (p.Function params inner)) ≡ t.function_literal (erased.parameters (view.parameters params)) (erased.body (view.body inner))
+pub erasing_function_literal : (params : Box Parameters Global) (inner : Body) → erased.primary (view.primary (p.Function params inner)) ≡ t.function_literal (erased.parameters (view.parameters params.value)) (erased.body (view.body inner))
 unfolding erased.primary
 erasing_function_literal params inner = ap erased.primary (view_function_literal params inner)
 
@@ -152,7 +152,7 @@ pub erasing_plain_parameter : (kind : VariableKind) (this_dot : Option ThisDot) 
 unfolding erased.parameter_kind
 erasing_plain_parameter kind this_dot name = ap erased.parameter_kind (view_plain_parameter kind this_dot name)
 
-pub erasing_function_parameter : (result_type : Option ResultType) (this_dot : Option ThisDot) (name : Identifier) (params : Parameters) → erased.parameter_kind (view.parameter_kind (k.Function result_type this_dot name params)) ≡ t.plain_parameter y.no_kind this_dot name
+pub erasing_function_parameter : (result_type : Option ResultType) (this_dot : Option ThisDot) (name : Identifier) (params : Box Parameters Global) → erased.parameter_kind (view.parameter_kind (k.Function result_type this_dot name params)) ≡ t.plain_parameter y.no_kind this_dot name
 unfolding erased.parameter_kind
 erasing_function_parameter result_type this_dot name params = ap erased.parameter_kind (view_function_parameter result_type this_dot name params)
 
@@ -172,7 +172,7 @@ pub erasing_variables_stmt : (declared : Variables) → erased.stmt (view.stmt (
 unfolding erased.stmt
 erasing_variables_stmt declared = ap erased.stmt (view_variables_stmt declared)
 
-pub erasing_function_stmt : (made : Function) → erased.stmt (view.stmt (st.Function made)) ≡ t.function_stmt (erased.function (view.function made))
+pub erasing_function_stmt : (made : Box Function Global) → erased.stmt (view.stmt (st.Function made)) ≡ t.function_stmt (erased.function (view.function made.value))
 unfolding erased.stmt
 erasing_function_stmt made = ap erased.stmt (view_function_stmt made)
 
@@ -184,7 +184,7 @@ pub erasing_if_else : (word : Place) (opening : Place) (condition : Expr) (closi
 unfolding erased.stmt
 erasing_if_else word opening condition closing first other second = ap erased.stmt (view_if_else word opening condition closing first other second)
 
-pub erasing_loop : (again : Loop) → erased.stmt (view.stmt (st.Loop again)) ≡ t.loop (erased.loop (view.loop again))
+pub erasing_loop : (again : Box Loop Global) → erased.stmt (view.stmt (st.Loop again)) ≡ t.loop (erased.loop (view.loop again.value))
 unfolding erased.stmt
 erasing_loop again = ap erased.stmt (view_loop again)
 

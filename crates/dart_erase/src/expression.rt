@@ -95,7 +95,7 @@ pub fn erase_operand(alloc: Global, tree: &Operand) -> Result<Operand, AllocErro
         } => {
             let primary = erase_primary(alloc, primary)?;
             let selectors = erase_selectors(alloc, selectors)?;
-            Ok(make::postfix(primary, selectors, *operator))
+            make::postfix(alloc, primary, selectors, *operator)
         }
         Operand::Primary(primary) => {
             let primary = erase_primary(alloc, primary)?;
@@ -132,7 +132,7 @@ pub fn erase_primary(alloc: Global, tree: &Primary) -> Result<Primary, AllocErro
         } => {
             let types = try_clone_type_arguments(alloc, type_arguments)?;
             let items = erase_items(alloc, items)?;
-            Ok(make::list_literal(types, *opening, items, *comma, *closing))
+            make::list_literal(alloc, types, *opening, items, *comma, *closing)
         }
         Primary::Map {
             type_arguments,
@@ -143,7 +143,7 @@ pub fn erase_primary(alloc: Global, tree: &Primary) -> Result<Primary, AllocErro
         } => {
             let types = try_clone_type_arguments(alloc, type_arguments)?;
             let entries = erase_entries(alloc, entries)?;
-            Ok(make::map_literal(types, *opening, entries, *comma, *closing))
+            make::map_literal(alloc, types, *opening, entries, *comma, *closing)
         }
         Primary::New {
             creation,
@@ -154,12 +154,12 @@ pub fn erase_primary(alloc: Global, tree: &Primary) -> Result<Primary, AllocErro
             let class = try_clone_type(alloc, class)?;
             let constructor = try_clone_maybe_dot_name(alloc, constructor)?;
             let arguments = erase_arguments(alloc, arguments)?;
-            Ok(make::new_object(*creation, class, constructor, arguments))
+            make::new_object(alloc, *creation, class, constructor, arguments)
         }
         Primary::Function(parameters, body) => {
             let parameters = erase_parameters(alloc, parameters)?;
             let body = erase_body(alloc, body)?;
-            Ok(Primary::Function(parameters, body))
+            make::function_literal(alloc, parameters, body)
         }
         Primary::Parenthesized {
             opening,

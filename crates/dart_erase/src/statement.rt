@@ -149,7 +149,7 @@ pub fn erase_stmt(alloc: Global, tree: &Stmt) -> Result<Stmt, AllocError>
         }
         Stmt::Function(function) => {
             let function = erase_function(alloc, function)?;
-            Ok(Stmt::Function(function))
+            statement::function_statement(alloc, function)
         }
         Stmt::If {
             word,
@@ -180,7 +180,7 @@ pub fn erase_stmt(alloc: Global, tree: &Stmt) -> Result<Stmt, AllocError>
         }
         Stmt::Loop(again) => {
             let again = erase_loop(alloc, again)?;
-            Ok(Stmt::Loop(again))
+            statement::loop_statement(alloc, again)
         }
         Stmt::Switch {
             word,

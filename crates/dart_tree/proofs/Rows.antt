@@ -177,11 +177,11 @@ view_binary first more =
     let row_more = row_binary_more (o.Binary first more) in
     ap (λ (x : t.Tails). t.binary (view.operand first.value) x) (tails_row row_more.0 row_more.1 ∙ ap tails_of (items_hidden-the_row-Tail-2 more))
 
-pub view_is_type : (first : Box Operand Global) (word : Place) (bang : Option Place) (kind : TypeNode) → view.operand (o.Is first word bang kind) ≡ t.is_type (view.operand first.value) word bang (view.type_node kind)
+pub view_is_type : (first : Box Operand Global) (word : Place) (bang : Option Place) (kind : Box TypeNode Global) → view.operand (o.Is first word bang kind) ≡ t.is_type (view.operand first.value) word bang (view.type_node kind.value)
 unfolding view.operand
 view_is_type first word bang kind = refl
 
-pub view_as_type : (first : Box Operand Global) (word : Place) (kind : TypeNode) → view.operand (o.As first word kind) ≡ t.as_type (view.operand first.value) word (view.type_node kind)
+pub view_as_type : (first : Box Operand Global) (word : Place) (kind : Box TypeNode Global) → view.operand (o.As first word kind) ≡ t.as_type (view.operand first.value) word (view.type_node kind.value)
 unfolding view.operand
 view_as_type first word kind = refl
 
@@ -190,14 +190,14 @@ unfolding view.operand
 view_prefix operator first = refl
 
 abbrev row_postfix_more : Operand → (n : Count) × Row_of-Selector n
-row_postfix_more (o.Postfix' first n_more row operator) = (_, row)
+row_postfix_more (o.Postfix' b_first first n_more row operator) = (_, row)
 row_postfix_more _ = (_, end_of-Selector)
 
-pub view_postfix : (first : Primary) (more : Vec Selector Global) (operator : Option Operator) → view.operand (o.Postfix first more operator) ≡ t.postfix (view.primary first) (selectors_of more.items) operator
+pub view_postfix : (first : Box Primary Global) (more : Vec Selector Global) (operator : Option Operator) → view.operand (o.Postfix first more operator) ≡ t.postfix (view.primary first.value) (selectors_of more.items) operator
 unfolding view.operand
 view_postfix first more operator =
     let row_more = row_postfix_more (o.Postfix first more operator) in
-    ap (λ (x : t.Selectors). t.postfix (view.primary first) x operator) (selectors_row row_more.0 row_more.1 ∙ ap selectors_of (items_hidden-the_row-Selector-0 more))
+    ap (λ (x : t.Selectors). t.postfix (view.primary first.value) x operator) (selectors_row row_more.0 row_more.1 ∙ ap selectors_of (items_hidden-the_row-Selector-0 more))
 
 pub view_primary : (base : Primary) → view.operand (o.Primary base) ≡ t.primary (view.primary base)
 unfolding view.operand
@@ -229,27 +229,27 @@ abbrev row_list_literal_all : Primary → (n : Count) × Row_of-Item n
 row_list_literal_all (p.List' kinds opening n_all row comma closing) = (_, row)
 row_list_literal_all _ = (_, end_of-Item)
 
-pub view_list_literal : (kinds : TypeArguments) (opening : Place) (all : Vec Item Global) (comma : Option Place) (closing : Place) → view.primary (p.List kinds opening all comma closing) ≡ t.list_literal (view.type_arguments kinds) opening (items_of all.items) comma closing
+pub view_list_literal : (kinds : Box TypeArguments Global) (opening : Place) (all : Vec Item Global) (comma : Option Place) (closing : Place) → view.primary (p.List kinds opening all comma closing) ≡ t.list_literal (view.type_arguments kinds.value) opening (items_of all.items) comma closing
 unfolding view.primary
 view_list_literal kinds opening all comma closing =
     let row_all = row_list_literal_all (p.List kinds opening all comma closing) in
-    ap (λ (x : t.Items). t.list_literal (view.type_arguments kinds) opening x comma closing) (items_row row_all.0 row_all.1 ∙ ap items_of (items_hidden-the_row-Item-4 all))
+    ap (λ (x : t.Items). t.list_literal (view.type_arguments kinds.value) opening x comma closing) (items_row row_all.0 row_all.1 ∙ ap items_of (items_hidden-the_row-Item-4 all))
 
 abbrev row_map_literal_all : Primary → (n : Count) × Row_of-Entry n
 row_map_literal_all (p.Map' kinds opening n_all row comma closing) = (_, row)
 row_map_literal_all _ = (_, end_of-Entry)
 
-pub view_map_literal : (kinds : TypeArguments) (opening : Place) (all : Vec Entry Global) (comma : Option Place) (closing : Place) → view.primary (p.Map kinds opening all comma closing) ≡ t.map_literal (view.type_arguments kinds) opening (entries_of all.items) comma closing
+pub view_map_literal : (kinds : Box TypeArguments Global) (opening : Place) (all : Vec Entry Global) (comma : Option Place) (closing : Place) → view.primary (p.Map kinds opening all comma closing) ≡ t.map_literal (view.type_arguments kinds.value) opening (entries_of all.items) comma closing
 unfolding view.primary
 view_map_literal kinds opening all comma closing =
     let row_all = row_map_literal_all (p.Map kinds opening all comma closing) in
-    ap (λ (x : t.Entries). t.map_literal (view.type_arguments kinds) opening x comma closing) (entries_row row_all.0 row_all.1 ∙ ap entries_of (items_hidden-the_row-Entry-5 all))
+    ap (λ (x : t.Entries). t.map_literal (view.type_arguments kinds.value) opening x comma closing) (entries_row row_all.0 row_all.1 ∙ ap entries_of (items_hidden-the_row-Entry-5 all))
 
-pub view_new_object : (creation : Creation) (class : TypeNode) (constructor : Option DotName) (args : Arguments) → view.primary (p.New creation class constructor args) ≡ t.new_object creation (view.type_node class) constructor (view.arguments args)
+pub view_new_object : (creation : Creation) (class : Box TypeNode Global) (constructor : Box (Option DotName) Global) (args : Box Arguments Global) → view.primary (p.New creation class constructor args) ≡ t.new_object creation (view.type_node class.value) constructor.value (view.arguments args.value)
 unfolding view.primary
 view_new_object creation class constructor args = refl
 
-pub view_function_literal : (params : Parameters) (inner : Body) → view.primary (p.Function params inner) ≡ t.function_literal (view.parameters params) (view.body inner)
+pub view_function_literal : (params : Box Parameters Global) (inner : Body) → view.primary (p.Function params inner) ≡ t.function_literal (view.parameters params.value) (view.body inner)
 unfolding view.primary
 view_function_literal params inner = refl
 
@@ -281,7 +281,7 @@ pub view_plain_parameter : (kind : VariableKind) (this_dot : Option ThisDot) (na
 unfolding view.parameter_kind
 view_plain_parameter kind this_dot name = refl
 
-pub view_function_parameter : (result_type : Option ResultType) (this_dot : Option ThisDot) (name : Identifier) (params : Parameters) → view.parameter_kind (k.Function result_type this_dot name params) ≡ t.function_parameter (view.result_option result_type) this_dot name (view.parameters params)
+pub view_function_parameter : (result_type : Option ResultType) (this_dot : Option ThisDot) (name : Identifier) (params : Box Parameters Global) → view.parameter_kind (k.Function result_type this_dot name params) ≡ t.function_parameter (view.result_option result_type) this_dot name (view.parameters params.value)
 unfolding view.parameter_kind
 view_function_parameter result_type this_dot name params = refl
 
@@ -303,7 +303,7 @@ pub view_variables_stmt : (declared : Variables) → view.stmt (st.Variables dec
 unfolding view.stmt
 view_variables_stmt declared = refl
 
-pub view_function_stmt : (made : Function) → view.stmt (st.Function made) ≡ t.function_stmt (view.function made)
+pub view_function_stmt : (made : Box Function Global) → view.stmt (st.Function made) ≡ t.function_stmt (view.function made.value)
 unfolding view.stmt
 view_function_stmt made = refl
 
@@ -315,7 +315,7 @@ pub view_if_else : (word : Place) (opening : Place) (condition : Expr) (closing 
 unfolding view.stmt
 view_if_else word opening condition closing first other second = refl
 
-pub view_loop : (again : Loop) → view.stmt (st.Loop again) ≡ t.loop (view.loop again)
+pub view_loop : (again : Box Loop Global) → view.stmt (st.Loop again) ≡ t.loop (view.loop again.value)
 unfolding view.stmt
 view_loop again = refl
 

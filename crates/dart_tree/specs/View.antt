@@ -1,5 +1,6 @@
 -- The tree that a value of the code is.
 use Rattle.std.specs.Prelude.{Option, Some, None}
+use Rattle.std.specs.Global.{Box}
 use Rattle.dart_tree.specs.declared.types.TypeNode.{TypeNode}
 use Rattle.dart_tree.specs.declared.types.TypeNode.TheVariants as tn
 use Rattle.dart_tree.specs.declared.types.TypeArguments.{TypeArguments, Row_of-TypeArgument}
@@ -70,13 +71,13 @@ abbrev mutual
   type_list end_of-TypeArgument = y.no_more_types
   type_list (more_of-TypeArgument comma x rest) = y.type_more comma (type_node x) (type_list rest)
 
-abbrev pub type_option : Option TypeNode → Option y.TypeNode
+abbrev pub type_option : Option (Box TypeNode) → Option y.TypeNode
 type_option None = None
-type_option (Some x) = Some (type_node x)
+type_option (Some x) = Some (type_node x.value)
 
 abbrev pub result_type : ResultType → y.ResultType
 result_type (rt.Void p) = y.void_result p
-result_type (rt.Typed x) = y.typed_result (type_node x)
+result_type (rt.Typed x) = y.typed_result (type_node x.value)
 
 abbrev pub result_option : Option ResultType → Option y.ResultType
 result_option None = None
@@ -87,7 +88,7 @@ variable_kind vk.Omitted = y.no_kind
 variable_kind (vk.Var p) = y.var_kind p
 variable_kind (vk.Final p x) = y.final_kind p (type_option x)
 variable_kind (vk.Const p x) = y.const_kind p (type_option x)
-variable_kind (vk.Typed x) = y.typed_kind (type_node x)
+variable_kind (vk.Typed x) = y.typed_kind (type_node x.value)
 
 abbrev pub try_kind : TryKind → y.TryKind
 try_kind (tk.On p x c) = y.on_part p (type_node x) c
@@ -104,10 +105,10 @@ unfoldable mutual
   operand (o.Conditional' _ condition question _ first colon _ second) =
       t.conditional (operand condition) question (expr first) colon (expr second)
   operand (o.Binary' _ first _ more) = t.binary (operand first) (tails more)
-  operand (o.Is' _ base word bang of) = t.is_type (operand base) word bang (type_node of)
-  operand (o.As' _ base word of) = t.as_type (operand base) word (type_node of)
+  operand (o.Is' _ base word bang of) = t.is_type (operand base) word bang (type_node of.value)
+  operand (o.As' _ base word of) = t.as_type (operand base) word (type_node of.value)
   operand (o.Prefix' operator _ base) = t.prefix operator (operand base)
-  operand (o.Postfix' base _ more operator) = t.postfix (primary base) (selectors more) operator
+  operand (o.Postfix' _ base _ more operator) = t.postfix (primary base) (selectors more) operator
   operand (o.Primary base) = t.primary (primary base)
 
   pub primary : Primary → t.Primary
@@ -116,12 +117,12 @@ unfoldable mutual
   primary (p.Atom atom) = t.atom atom
   primary (p.Text' _ all) = t.text (pieces all)
   primary (p.List' kinds opening _ all comma closing) =
-      t.list_literal (type_arguments kinds) opening (items all) comma closing
+      t.list_literal (type_arguments kinds.value) opening (items all) comma closing
   primary (p.Map' kinds opening _ all comma closing) =
-      t.map_literal (type_arguments kinds) opening (entries all) comma closing
-  primary (p.New creation class constructor given) =
-      t.new_object creation (type_node class) constructor (arguments given)
-  primary (p.Function given inner) = t.function_literal (parameters given) (body inner)
+      t.map_literal (type_arguments kinds.value) opening (entries all) comma closing
+  primary (p.New' creation class constructor _ given) =
+      t.new_object creation (type_node class.value) constructor.value (arguments given)
+  primary (p.Function' _ given inner) = t.function_literal (parameters given) (body inner)
   primary (p.Parenthesized' opening _ given closing) = t.parenthesized opening (expr given) closing
 
   pub selector : Selector → t.Selector
@@ -135,7 +136,7 @@ unfoldable mutual
 
   pub parameter_kind : ParameterKind → t.ParameterKind
   parameter_kind (k.Plain kind this_dot name) = t.plain_parameter (variable_kind kind) this_dot name
-  parameter_kind (k.Function result_type this_dot name given) =
+  parameter_kind (k.Function' result_type this_dot name _ given) =
       t.function_parameter (result_option result_type) this_dot name (parameters given)
 
   pub stmt : Stmt → t.Stmt
@@ -143,12 +144,12 @@ unfoldable mutual
   stmt (st.Block' block_opening _ block_statements block_closing) =
       t.block_stmt (t.the_block block_opening (stmts block_statements) block_closing)
   stmt (st.Variables declared) = t.variables_stmt (variables declared)
-  stmt (st.Function made) = t.function_stmt (function made)
+  stmt (st.Function' _ made) = t.function_stmt (function made)
   stmt (st.If' word opening condition closing _ first) =
       t.if_stmt word opening (expr condition) closing (stmt first)
   stmt (st.IfElse' word opening condition closing _ first other _ second) =
       t.if_else word opening (expr condition) closing (stmt first) other (stmt second)
-  stmt (st.Loop again) = t.loop (loop again)
+  stmt (st.Loop' _ again) = t.loop (loop again)
   stmt (st.Switch' word opening given closing left _ parts right) =
       t.switch_stmt word opening (expr given) closing left (switch_parts parts) right
   stmt (st.Try' word block_opening _ block_statements block_closing _ parts) =

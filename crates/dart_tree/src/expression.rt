@@ -61,19 +61,19 @@ pub enum Operand {
         operand: Box<Operand>,
         word: Place,
         bang: Option<Place>,
-        type_node: TypeNode,
+        type_node: Box<TypeNode>,
     },
     /// `a as T` (16.35 Type Cast)
     As {
         operand: Box<Operand>,
         word: Place,
-        type_node: TypeNode,
+        type_node: Box<TypeNode>,
     },
     /// `-a`, `!a`, `~a`, `++a` or `--a` (16.29 Unary Expressions)
     Prefix(Operator, Box<Operand>),
     /// `a.b[c](d)`, `a++` or `a.b--` (16.31 Postfix Expressions)
     Postfix {
-        primary: Primary,
+        primary: Box<Primary>,
         selectors: Vec<Selector>,
         operator: Option<Operator>,
     },
@@ -128,7 +128,7 @@ pub enum Primary {
     Text(Vec<StringPiece>),
     /// `<A>[a, b]` (16.7 Lists)
     List {
-        type_arguments: TypeArguments,
+        type_arguments: Box<TypeArguments>,
         opening: Place,
         items: Vec<Item>,
         comma: Option<Place>,
@@ -136,7 +136,7 @@ pub enum Primary {
     },
     /// `<A, B>{a: b, c: d}` (16.8 Maps)
     Map {
-        type_arguments: TypeArguments,
+        type_arguments: Box<TypeArguments>,
         opening: Place,
         entries: Vec<Entry>,
         comma: Option<Place>,
@@ -145,12 +145,12 @@ pub enum Primary {
     /// `new A.b(c)` or `const A.b(c)` (16.12 Instance Creation)
     New {
         creation: Creation,
-        class: TypeNode,
-        constructor: Option<DotName>,
-        arguments: Arguments,
+        class: Box<TypeNode>,
+        constructor: Box<Option<DotName>>,
+        arguments: Box<Arguments>,
     },
     /// `(a) => b` or `(a) { b; }` (16.10 Function Expressions)
-    Function(Parameters, Body),
+    Function(Box<Parameters>, Body),
     /// `(a)` (16 Expressions)
     Parenthesized {
         opening: Place,

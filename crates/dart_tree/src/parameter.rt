@@ -57,7 +57,7 @@ pub enum ParameterKind {
         result_type: Option<ResultType>,
         this_dot: Option<ThisDot>,
         name: Identifier,
-        parameters: Parameters,
+        parameters: Box<Parameters>,
     },
 }
 
@@ -88,11 +88,11 @@ pub enum VariableKind {
     /// `var`
     Var(Place),
     /// `final` or `final A`
-    Final(Place, Option<TypeNode>),
+    Final(Place, Option<Box<TypeNode>>),
     /// `const` or `const A`, as before no parameter and no variable of a `for .. in`
-    Const(Place, Option<TypeNode>),
+    Const(Place, Option<Box<TypeNode>>),
     /// `A`
-    Typed(TypeNode),
+    Typed(Box<TypeNode>),
 }
 
 /// `this.` before the name of an initializing formal (ECMA-408, 10.6.1 Generative Constructors).

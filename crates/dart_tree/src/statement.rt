@@ -24,7 +24,7 @@ pub enum Stmt {
     /// `var a = b;` (17.3 Local Variable Declaration)
     Variables(Variables),
     /// `a(b) { c; }` (17.4 Local Function Declaration)
-    Function(Function),
+    Function(Box<Function>),
     /// `if (a) b;` (17.5 If)
     If {
         word: Place,
@@ -44,7 +44,7 @@ pub enum Stmt {
         second: Box<Stmt>,
     },
     /// `for (a; b; c) d;`, `while (a) b;` and the like (17.6 For, 17.7 While and 17.8 Do)
-    Loop(Loop),
+    Loop(Box<Loop>),
     /// `switch (a) { case b: c; default: d; }` (17.9 Switch)
     Switch {
         word: Place,

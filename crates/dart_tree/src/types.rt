@@ -57,5 +57,5 @@ pub enum ResultType {
     /// `void` (19.7 Type Void)
     Void(Place),
     /// `A`
-    Typed(TypeNode),
+    Typed(Box<TypeNode>),
 }

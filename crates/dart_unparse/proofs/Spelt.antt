@@ -74,11 +74,11 @@ pub spelt_binary : (first : Box Operand Global) (more : Vec Tail Global) → ope
 unfolding operand_tokens
 spelt_binary first more = ap operand_tokens (view_binary first more)
 
-pub spelt_is_type : (first : Box Operand Global) (word : Place) (bang : Option Place) (kind : TypeNode) → operand_tokens (view.operand (o.Is first word bang kind)) ≡ operand_tokens (view.operand first.value) ++ (word_at word w.Is ∷ (maybe_sign bang sg.Bang ++ type_tokens (view.type_node kind)))
+pub spelt_is_type : (first : Box Operand Global) (word : Place) (bang : Option Place) (kind : Box TypeNode Global) → operand_tokens (view.operand (o.Is first word bang kind)) ≡ operand_tokens (view.operand first.value) ++ (word_at word w.Is ∷ (maybe_sign bang sg.Bang ++ type_tokens (view.type_node kind.value)))
 unfolding operand_tokens
 spelt_is_type first word bang kind = ap operand_tokens (view_is_type first word bang kind)
 
-pub spelt_as_type : (first : Box Operand Global) (word : Place) (kind : TypeNode) → operand_tokens (view.operand (o.As first word kind)) ≡ operand_tokens (view.operand first.value) ++ (word_at word w.As ∷ (type_tokens (view.type_node kind)))
+pub spelt_as_type : (first : Box Operand Global) (word : Place) (kind : Box TypeNode Global) → operand_tokens (view.operand (o.As first word kind)) ≡ operand_tokens (view.operand first.value) ++ (word_at word w.As ∷ (type_tokens (view.type_node kind.value)))
 unfolding operand_tokens
 spelt_as_type first word kind = ap operand_tokens (view_as_type first word kind)
 
@@ -86,7 +86,7 @@ pub spelt_prefix : (operator : Operator) (first : Box Operand Global) → operan
 unfolding operand_tokens
 spelt_prefix operator first = ap operand_tokens (view_prefix operator first)
 
-pub spelt_postfix : (first : Primary) (more : Vec Selector Global) (operator : Option Operator) → operand_tokens (view.operand (o.Postfix first more operator)) ≡ primary_tokens (view.primary first) ++ (selectors_tokens (selectors_of more.items) ++ maybe_operator operator)
+pub spelt_postfix : (first : Box Primary Global) (more : Vec Selector Global) (operator : Option Operator) → operand_tokens (view.operand (o.Postfix first more operator)) ≡ primary_tokens (view.primary first.value) ++ (selectors_tokens (selectors_of more.items) ++ maybe_operator operator)
 unfolding operand_tokens
 spelt_postfix first more operator = ap operand_tokens (view_postfix first more operator)
 
@@ -110,19 +110,19 @@ pub spelt_text : (all : Vec StringPiece Global) → primary_tokens (view.primary
 unfolding primary_tokens
 spelt_text all = ap primary_tokens (view_text all)
 
-pub spelt_list_literal : (kinds : TypeArguments) (opening : Place) (all : Vec Item Global) (comma : Option Place) (closing : Place) → primary_tokens (view.primary (p.List kinds opening all comma closing)) ≡ type_arguments_tokens (view.type_arguments kinds) ++ (sign_at opening sg.LeftBracket ∷ (items_tokens (items_of all.items) ++ (maybe_sign comma sg.Comma ++ (sign_at closing sg.RightBracket ∷ []))))
+pub spelt_list_literal : (kinds : Box TypeArguments Global) (opening : Place) (all : Vec Item Global) (comma : Option Place) (closing : Place) → primary_tokens (view.primary (p.List kinds opening all comma closing)) ≡ type_arguments_tokens (view.type_arguments kinds.value) ++ (sign_at opening sg.LeftBracket ∷ (items_tokens (items_of all.items) ++ (maybe_sign comma sg.Comma ++ (sign_at closing sg.RightBracket ∷ []))))
 unfolding primary_tokens
 spelt_list_literal kinds opening all comma closing = ap primary_tokens (view_list_literal kinds opening all comma closing)
 
-pub spelt_map_literal : (kinds : TypeArguments) (opening : Place) (all : Vec Entry Global) (comma : Option Place) (closing : Place) → primary_tokens (view.primary (p.Map kinds opening all comma closing)) ≡ type_arguments_tokens (view.type_arguments kinds) ++ (sign_at opening sg.LeftBrace ∷ (entries_tokens (entries_of all.items) ++ (maybe_sign comma sg.Comma ++ (sign_at closing sg.RightBrace ∷ []))))
+pub spelt_map_literal : (kinds : Box TypeArguments Global) (opening : Place) (all : Vec Entry Global) (comma : Option Place) (closing : Place) → primary_tokens (view.primary (p.Map kinds opening all comma closing)) ≡ type_arguments_tokens (view.type_arguments kinds.value) ++ (sign_at opening sg.LeftBrace ∷ (entries_tokens (entries_of all.items) ++ (maybe_sign comma sg.Comma ++ (sign_at closing sg.RightBrace ∷ []))))
 unfolding primary_tokens
 spelt_map_literal kinds opening all comma closing = ap primary_tokens (view_map_literal kinds opening all comma closing)
 
-pub spelt_new_object : (creation : Creation) (class : TypeNode) (constructor : Option DotName) (args : Arguments) → primary_tokens (view.primary (p.New creation class constructor args)) ≡ creation_token creation ∷ (type_tokens (view.type_node class) ++ (maybe_dot_name constructor ++ arguments_tokens (view.arguments args)))
+pub spelt_new_object : (creation : Creation) (class : Box TypeNode Global) (constructor : Box (Option DotName) Global) (args : Box Arguments Global) → primary_tokens (view.primary (p.New creation class constructor args)) ≡ creation_token creation ∷ (type_tokens (view.type_node class.value) ++ (maybe_dot_name constructor.value ++ arguments_tokens (view.arguments args.value)))
 unfolding primary_tokens
 spelt_new_object creation class constructor args = ap primary_tokens (view_new_object creation class constructor args)
 
-pub spelt_function_literal : (params : Parameters) (inner : Body) → primary_tokens (view.primary (p.Function params inner)) ≡ parameters_tokens (view.parameters params) ++ body_tokens (view.body inner)
+pub spelt_function_literal : (params : Box Parameters Global) (inner : Body) → primary_tokens (view.primary (p.Function params inner)) ≡ parameters_tokens (view.parameters params.value) ++ body_tokens (view.body inner)
 unfolding primary_tokens
 spelt_function_literal params inner = ap primary_tokens (view_function_literal params inner)
 
@@ -154,7 +154,7 @@ pub spelt_plain_parameter : (kind : VariableKind) (this_dot : Option ThisDot) (n
 unfolding parameter_kind_tokens
 spelt_plain_parameter kind this_dot name = ap parameter_kind_tokens (view_plain_parameter kind this_dot name)
 
-pub spelt_function_parameter : (result_type : Option ResultType) (this_dot : Option ThisDot) (name : Identifier) (params : Parameters) → parameter_kind_tokens (view.parameter_kind (k.Function result_type this_dot name params)) ≡ maybe_result (view.result_option result_type) ++ (maybe_this this_dot ++ (identifier_tokens name ++ parameters_tokens (view.parameters params)))
+pub spelt_function_parameter : (result_type : Option ResultType) (this_dot : Option ThisDot) (name : Identifier) (params : Box Parameters Global) → parameter_kind_tokens (view.parameter_kind (k.Function result_type this_dot name params)) ≡ maybe_result (view.result_option result_type) ++ (maybe_this this_dot ++ (identifier_tokens name ++ parameters_tokens (view.parameters params.value)))
 unfolding parameter_kind_tokens
 spelt_function_parameter result_type this_dot name params = ap parameter_kind_tokens (view_function_parameter result_type this_dot name params)
 
@@ -174,7 +174,7 @@ pub spelt_variables_stmt : (declared : Variables) → stmt_tokens (view.stmt (st
 unfolding stmt_tokens
 spelt_variables_stmt declared = ap stmt_tokens (view_variables_stmt declared)
 
-pub spelt_function_stmt : (made : Function) → stmt_tokens (view.stmt (st.Function made)) ≡ function_tokens (view.function made)
+pub spelt_function_stmt : (made : Box Function Global) → stmt_tokens (view.stmt (st.Function made)) ≡ function_tokens (view.function made.value)
 unfolding stmt_tokens
 spelt_function_stmt made = ap stmt_tokens (view_function_stmt made)
 
@@ -186,7 +186,7 @@ pub spelt_if_else : (word : Place) (opening : Place) (condition : Expr) (closing
 unfolding stmt_tokens
 spelt_if_else word opening condition closing first other second = ap stmt_tokens (view_if_else word opening condition closing first other second)
 
-pub spelt_loop : (again : Loop) → stmt_tokens (view.stmt (st.Loop again)) ≡ loop_tokens (view.loop again)
+pub spelt_loop : (again : Box Loop Global) → stmt_tokens (view.stmt (st.Loop again)) ≡ loop_tokens (view.loop again.value)
 unfolding stmt_tokens
 spelt_loop again = ap stmt_tokens (view_loop again)
 

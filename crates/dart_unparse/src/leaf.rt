@@ -416,7 +416,7 @@ impl Writer {
         Ok(())
     }
 
-    fn maybe_type(&mut self, of: &Option<TypeNode>) -> Result<(), AllocError>
+    fn maybe_type(&mut self, of: &Option<Box<TypeNode>>) -> Result<(), AllocError>
         ensures { OnOk result (Appends self.old self.new (maybe_type (view.type_option of.now))) }
     {
         match of {

@@ -52,7 +52,8 @@ fn repeated(alloc: Global, word: Place, body: Stmt, again: DoRest) -> Result<Stm
         condition.closing,
         again.semicolon,
     )?;
-    Ok(Stmt::Loop(found))
+    let statement = make::loop_statement(alloc, found)?;
+    Ok(statement)
 }
 
 // What stands behind the body.

@@ -10,6 +10,7 @@ ghost use Rattle.syntax_readers.specs.Statements as spec;
 ghost use Rattle.token_cursor.specs.Gives.{GivesHigh};
 ghost use Rattle.parse_nest.specs.Stages.{nodes_at};
 
+use dart_node::make::statement as make;
 use dart_tree::expression::Expr;
 use dart_tree::parameter::Parameters;
 use dart_tree::statement::{Block, Stmt};
@@ -36,7 +37,7 @@ fn variables_stmt<
 }
 
 // A local function as a statement.
-#[tactic(auto, unfolding(dart_tree::specs::Depth::stmt_height, dart_tree::specs::View::stmt))]
+#[tactic(auto, unfolding(dart_tree::specs::Depth::stmt_height))]
 fn function_stmt<
     E: Fn(Global, &mut Cursor<'_>, usize, bool) -> Result<(OpenExpr, usize), ReadFault>,
     P: Fn(Global, &mut Cursor<'_>, usize) -> Result<(Parameters, usize), ReadFault>,
@@ -49,7 +50,7 @@ fn function_stmt<
     ensures { GivesHigh view.stmt height.stmt_height depth (mapped t.function_stmt (local_function_at depth) cursor.old) result cursor.new }
 {
     let (found, height) = local_function(nest, cursor, depth)?;
-    Ok((Stmt::Function(found), height))
+    Ok((make::function_statement(nest.alloc, found)?, height))
 }
 
 // A local function, or else variables.

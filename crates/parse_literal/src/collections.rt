@@ -111,7 +111,7 @@ fn list_literal<
     let ((items, comma), of_items) = list_items(nest, cursor, depth)?;
     let closing = cursor.expect(Sign::RightBracket)?;
     Ok((
-        make::list_literal(type_arguments, opening, items, comma, closing),
+        make::list_literal(nest.alloc, type_arguments, opening, items, comma, closing)?,
         of_types.max(of_items) + 1,
     ))
 }
@@ -221,7 +221,7 @@ fn map_literal<
     let ((entries, comma), of_entries) = map_entries(nest, cursor, depth)?;
     let closing = cursor.expect(Sign::RightBrace)?;
     Ok((
-        make::map_literal(type_arguments, opening, entries, comma, closing),
+        make::map_literal(nest.alloc, type_arguments, opening, entries, comma, closing)?,
         of_types.max(of_entries) + 1,
     ))
 }

@@ -1,5 +1,5 @@
 // Parameters (ECMA-408, 9.2 Formal Parameters).
-ghost use Rattle.std.specs.Prelude.{◌≡◌, ◌≤◌, ◌||◌, ◌&&◌, max, None, Some};
+ghost use Rattle.std.specs.Prelude.{◌≡◌, ◌≤◌, ◌||◌, ◌&&◌, max, IfOk, None, Some};
 ghost use Rattle.dart_token.specs.declared.sign.Sign.TheVariants as s;
 ghost use Rattle.dart_tree.specs.Depth as height;
 ghost use Rattle.dart_tree.specs.View as view;
@@ -15,6 +15,7 @@ ghost use Rattle.token_cursor.specs.Gives.{GivesHigh};
 
 use crate::look::sees_kind;
 use dart_base::place::Place;
+use dart_node::make::expression as make;
 use dart_token::sign::Sign;
 use dart_token::word::Word;
 use dart_tree::identifier::Identifier;
@@ -24,7 +25,7 @@ use dart_tree::types::ResultType;
 use parse_nest::inside::{Inside, OpenExpr};
 use parse_type::kind::kind;
 use parse_type::look::pass_name;
-use std::alloc::Global;
+use std::alloc::{AllocError, Global};
 use token_cursor::cursor::Cursor;
 use token_cursor::error::ReadFault;
 
@@ -178,18 +179,19 @@ fn plain_parameter(head: ParameterHead) -> ParameterKind
 }
 
 // A parameter that is a function, with its height.
-#[tactic(auto, unfolding(dart_tree::specs::Depth::parameter_kind_height, dart_tree::specs::View::parameter_kind))]
+#[tactic(auto, unfolding(dart_tree::specs::Depth::parameter_kind_height))]
 fn function_parameter(
+    alloc: Global,
     head: ParameterHead,
     tall: usize,
     parameters: Parameters,
     taller: usize,
-) -> (ParameterKind, usize)
+) -> Result<(ParameterKind, usize), AllocError>
     requires tall { tall ≡ head_height (head_of head) }
     requires taller { taller ≡ height.parameters_height (view.parameters parameters) }
-    ensures same { view.parameter_kind result.0 ≡ spec.a_parameter (head_of head, Some (view.parameters parameters)) }
-    ensures high { result.1 ≡ height.parameter_kind_height (view.parameter_kind result.0) }
-    ensures low { result.1 ≤ max tall taller }
+    ensures same { IfOk result (λ x. view.parameter_kind x.0 ≡ spec.a_parameter (head_of head, Some (view.parameters parameters))) }
+    ensures high { IfOk result (λ x. x.1 ≡ height.parameter_kind_height (view.parameter_kind x.0)) }
+    ensures low { IfOk result (λ x. x.1 ≤ max tall taller) }
 {
     let ParameterHead {
         before,
@@ -197,13 +199,8 @@ fn function_parameter(
         name,
     } = head;
     let (result_type, above) = result_before(before, tall);
-    let kind = ParameterKind::Function {
-        result_type,
-        this_dot,
-        name,
-        parameters,
-    };
-    (kind, above.max(taller))
+    let kind = make::function_parameter(alloc, result_type, this_dot, name, parameters)?;
+    Ok((kind, above.max(taller)))
 }
 
 /// Reads how a parameter is declared (ECMA-408, 9.2.1 Required Formals).
@@ -226,6 +223,7 @@ pub fn parameter_kind<
     if !parameters_follow(&head, cursor) {
         return Ok((plain_parameter(head), tall));
     }
-    let (parameters, height) = nest.parameters(cursor, depth)?;
-    Ok(function_parameter(head, tall, parameters, height))
+    let (parameters, taller) = nest.parameters(cursor, depth)?;
+    let (kind, height) = function_parameter(nest.alloc, head, tall, parameters, taller)?;
+    Ok((kind, height))
 }

@@ -1,7 +1,5 @@
 // Function literals (ECMA-408, 16.10 Function Expressions).
-ghost use Rattle.std.specs.Prelude.{◌≡◌, ◌≤◌, ◌<◌, ◌+◌, true};
-ghost use Rattle.dart_tree.specs.Tree as t;
-ghost use Rattle.dart_tree.specs.View as view;
+ghost use Rattle.std.specs.Prelude.{◌≤◌, ◌<◌, ◌+◌, true};
 ghost use Rattle.token_cursor.specs.Gives.{GivesHigh};
 ghost use Rattle.parse_nest.specs.Nests.{NestsExpr, NestsParameters, NestsBlock};
 ghost use Rattle.parse_nest.specs.Stages.{expr_at, block_at, exprs_at};
@@ -10,9 +8,9 @@ ghost use Rattle.parse_primary.specs.Views.{open_body, open_body_height, open_pr
 
 use crate::open::OpenPrimary;
 use dart_base::place::Place;
+use dart_node::make::expression::function_literal;
 use dart_node::make::statement as make;
 use dart_token::sign::Sign;
-use dart_tree::expression::Primary;
 use dart_tree::parameter::Parameters;
 use dart_tree::statement::{Block, Body};
 use parse_nest::inside::{Inside, OpenExpr};
@@ -22,14 +20,6 @@ use token_cursor::error::ReadFault;
 
 // A body with the half of an operator behind it, if one was read.
 type OpenBody = (Body, Option<Place>);
-
-// A function literal from its parts.
-#[tactic(auto, unfolding(dart_tree::specs::View::primary))]
-fn literal(parameters: Parameters, body: Body) -> Primary
-    ensures { view.primary result ≡ t.function_literal (view.parameters parameters) (view.body body) }
-{
-    Primary::Function(parameters, body)
-}
 
 // `=>` and an expression.
 #[tactic(auto, unfolding(dart_tree::specs::Depth::body_height))]
@@ -112,10 +102,8 @@ fn function_over<
 {
     let (parameters, of_parameters) = nest.parameters(cursor, depth)?;
     let ((body, half), of_body) = literal_body(nest, cursor, depth)?;
-    Ok((
-        (literal(parameters, body), half),
-        of_parameters.max(of_body) + 1,
-    ))
+    let literal = function_literal(nest.alloc, parameters, body)?;
+    Ok(((literal, half), of_parameters.max(of_body) + 1))
 }
 
 /// Reads a function literal (ECMA-408, 16.10 Function Expressions).

@@ -153,7 +153,7 @@ fn object<
     let constructor = cursor.maybe_dot_name(nest.alloc)?;
     let (given, of_given) = arguments(nest, cursor, depth)?;
     Ok((
-        make::new_object(creation, class, constructor, given),
+        make::new_object(nest.alloc, creation, class, constructor, given)?,
         of_class.max(of_given),
     ))
 }

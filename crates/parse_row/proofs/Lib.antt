@@ -1,4 +1,5 @@
 pub mod Behind
+pub mod Passed
 pub mod Passing
 pub mod Signs
 pub mod Steps

@@ -78,7 +78,7 @@ given_back : (o : Outcome Token (Open Operand)) → o ≡ and_then o (λ x rest.
 given_back (Ok x) = refl
 given_back (Err rest) = refl
 
-climb_by : (depth row : ℕ) (ts : List Token) → row_reader depth (suc row) ts ≡ and_then (row_reader depth row ts) (λ x rest. behind depth row x rest)
+pub climb_by : (depth row : ℕ) (ts : List Token) → row_reader depth (suc row) ts ≡ and_then (row_reader depth row ts) (λ x rest. behind depth row x rest)
 unfolding behind
 climb_by zero row ts = flat_is row ts ∙ given_back (row_reader 0 row ts)
 climb_by (suc n) row ts =

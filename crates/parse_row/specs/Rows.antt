@@ -210,6 +210,44 @@ view_tails x = (tails_of x.0.items, x.1)
 abbrev pub open_tails_height : Open t.Tails → ℕ
 open_tails_height x = height.tails_height x.0
 
+-- ---- operands behind which no operator of any row comes
+
+-- what may begin an operator of a row
+abbrev pub codes_in : Row → List ℕ
+codes_in (chained sign more) = sign_codes (sign ∷ more)
+codes_in shifts = sign_code s.ShiftLeft ∷ these s.Greater
+codes_in (single sign more) = sign_codes (sign ∷ more)
+codes_in comparison = sign_codes comparing ++ test_codes
+codes_in (logical sign) = these sign
+codes_in choice = these s.Question
+codes_in no_row = []
+
+abbrev pub codes_of : List Row → List ℕ
+codes_of [] = []
+codes_of (row ∷ more) = codes_in row ++ codes_of more
+
+-- and one of any row
+abbrev pub operator_codes : List ℕ
+operator_codes = codes_of rows
+
+-- each row gives the operand alone: it has no half of an operator and is not `super` alone, and no operator comes
+abbrev pub passes_rows : Open Operand → List Token → Bool
+passes_rows x ts = no_half x && not (is_bare x.0) && not (starts class_of operator_codes ts)
+
+-- ---- means of proof: the same codes in four parts
+
+abbrev pub sum_codes : List ℕ
+sum_codes = sign_codes (s.Star ∷ s.Slash ∷ s.TildeSlash ∷ s.Percent ∷ s.Plus ∷ s.Minus ∷ [])
+
+abbrev pub bit_codes : List ℕ
+bit_codes = sign_codes (s.ShiftLeft ∷ s.Greater ∷ s.Ampersand ∷ s.Caret ∷ s.Bar ∷ [])
+
+abbrev pub comparison_codes : List ℕ
+comparison_codes = sign_codes comparing ++ test_codes
+
+abbrev pub choice_codes : List ℕ
+choice_codes = sign_codes (s.EqualEqual ∷ s.NotEqual ∷ s.AndAnd ∷ s.OrOr ∷ s.Question ∷ [])
+
 -- ---- means of proof: lists that a loop reads turn by turn
 
 -- these operators with their operands were read, of which the last has this half, and this is left

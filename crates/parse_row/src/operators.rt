@@ -10,7 +10,7 @@ ghost use Rattle.token_codes.specs.Leaves as spec;
 ghost use Rattle.token_cursor.specs.Gives.{Gives, same};
 ghost use Rattle.syntax_readers.specs.Levels.{compare_codes, shift_codes, shift_operator, comparing};
 ghost use Rattle.parse_unary.specs.Views.{open_operand};
-ghost use Rattle.parse_row.specs.Rows.{row_signs, row_binds, row_repeats, row_codes, stands_before, repeats_behind, leaves_shift, may_shift, half_behind, order_codes, test_codes, codes_behind};
+ghost use Rattle.parse_row.specs.Rows.{row_signs, row_binds, row_repeats, row_codes, stands_before, repeats_behind, leaves_shift, may_shift, half_behind, order_codes, test_codes, codes_behind, sum_codes, bit_codes, comparison_codes, choice_codes, operator_codes, passes_rows};
 
 use dart_base::place::Place;
 use dart_token::sign::Sign;
@@ -294,4 +294,65 @@ pub fn compares(cursor: &Cursor<'_>, depth: usize, first: &OpenOperand, tall: us
         Some(_) => sees_operand(cursor) && leaves(COMPARES, &first.0),
         None => compares_behind(cursor, &first.0),
     }
+}
+
+// Whether an operator of products or sums comes.
+#[tactic(auto, using(crate::proofs::Passed::sum_starts))]
+fn sees_sum(cursor: &Cursor<'_>) -> bool
+    ensures { result ≡ starts class_of sum_codes cursor.now }
+{
+    cursor.sees(Sign::Star)
+        || cursor.sees(Sign::Slash)
+        || cursor.sees(Sign::TildeSlash)
+        || cursor.sees(Sign::Percent)
+        || cursor.sees(Sign::Plus)
+        || cursor.sees(Sign::Minus)
+}
+
+// Whether an operator of shifts or bits comes.
+#[tactic(auto, using(crate::proofs::Passed::bit_starts))]
+fn sees_bits(cursor: &Cursor<'_>) -> bool
+    ensures { result ≡ starts class_of bit_codes cursor.now }
+{
+    cursor.sees(Sign::ShiftLeft)
+        || cursor.sees(Sign::Greater)
+        || cursor.sees(Sign::Ampersand)
+        || cursor.sees(Sign::Caret)
+        || cursor.sees(Sign::Bar)
+}
+
+// Whether an operator of comparisons comes, `is` or `as`.
+#[tactic(auto, using(crate::proofs::Passed::comparison_starts))]
+fn sees_comparison(cursor: &Cursor<'_>) -> bool
+    ensures { result ≡ starts class_of comparison_codes cursor.now }
+{
+    cursor.sees(Sign::Less) || sees_order(cursor) || sees_type_test(cursor)
+}
+
+// Whether an operator of equality, of logic or of a conditional comes.
+#[tactic(auto, using(crate::proofs::Passed::choice_starts))]
+fn sees_choice(cursor: &Cursor<'_>) -> bool
+    ensures { result ≡ starts class_of choice_codes cursor.now }
+{
+    cursor.sees(Sign::EqualEqual)
+        || cursor.sees(Sign::NotEqual)
+        || cursor.sees(Sign::AndAnd)
+        || cursor.sees(Sign::OrOr)
+        || cursor.sees(Sign::Question)
+}
+
+// Whether an operator of any row comes.
+#[tactic(auto, using(crate::proofs::Passed::operator_starts))]
+fn sees_any_operator(cursor: &Cursor<'_>) -> bool
+    ensures { result ≡ starts class_of operator_codes cursor.now }
+{
+    sees_sum(cursor) || sees_bits(cursor) || sees_comparison(cursor) || sees_choice(cursor)
+}
+
+/// Whether each row gives this operand alone: no half of an operator stands behind it, it is not `super` alone, and no
+/// operator comes (ECMA-408, 16.20 to 16.28).
+pub fn passes_rows(cursor: &Cursor<'_>, first: &OpenOperand) -> bool
+    ensures { result ≡ passes_rows (open_operand first.now) cursor.now }
+{
+    first.1.is_none() && !is_bare(&first.0) && !sees_any_operator(cursor)
 }

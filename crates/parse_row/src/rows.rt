@@ -10,7 +10,7 @@ ghost use Rattle.parse_row.specs.Rows as spec;
 
 use crate::choice::conditional;
 use crate::lower::Lower;
-use crate::operators::{CHOICE_ROW, COMPARE_ROW, EQUAL_ROW, SHIFT_ROW};
+use crate::operators::{CHOICE_ROW, COMPARE_ROW, EQUAL_ROW, SHIFT_ROW, passes_rows};
 use dart_tree::parameter::Parameters;
 use dart_tree::statement::Block;
 use parse_nest::inside::{Inside, OpenExpr};
@@ -79,6 +79,9 @@ fn climb<
     ensures { GivesHigh open_operand open_operand_height depth (row_reader depth row cursor.old) result cursor.new }
 {
     let (first, high) = unary(nest, cursor, depth)?;
+    if passes_rows(cursor, &first) {
+        return Ok((first, high));
+    }
     let mut operand = first;
     let mut tall = high;
     for i in 0..row {

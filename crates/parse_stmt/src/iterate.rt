@@ -326,7 +326,7 @@ fn any_for<
 }
 
 /// Reads a `for` whose parts have at most so many nodes above one another (ECMA-408, 17.6 For).
-#[tactic(auto, unfolding(dart_tree::specs::Depth::stmt_height, dart_tree::specs::View::stmt))]
+#[tactic(auto, unfolding(dart_tree::specs::Depth::stmt_height))]
 pub fn for_stmt<
     E: Fn(Global, &mut Cursor<'_>, usize, bool) -> Result<(OpenExpr, usize), ReadFault>,
     P: Fn(Global, &mut Cursor<'_>, usize) -> Result<(Parameters, usize), ReadFault>,
@@ -346,7 +346,7 @@ pub fn for_stmt<
     ensures { GivesHigh view.stmt height.stmt_height (depth + 1) (mapped t.loop (for_at depth) cursor.old) result cursor.new }
 {
     let (made, height) = any_for(nest, inner, cursor, depth)?;
-    Ok((Stmt::Loop(made), height))
+    Ok((make::loop_statement(nest.alloc, made)?, height))
 }
 
 // A `while`.
@@ -385,7 +385,7 @@ fn while_loop<
 }
 
 /// Reads a `while` whose parts have at most so many nodes above one another (ECMA-408, 17.7 While).
-#[tactic(auto, unfolding(dart_tree::specs::Depth::stmt_height, dart_tree::specs::View::stmt))]
+#[tactic(auto, unfolding(dart_tree::specs::Depth::stmt_height))]
 pub fn while_stmt<
     E: Fn(Global, &mut Cursor<'_>, usize, bool) -> Result<(OpenExpr, usize), ReadFault>,
     P: Fn(Global, &mut Cursor<'_>, usize) -> Result<(Parameters, usize), ReadFault>,
@@ -406,5 +406,5 @@ pub fn while_stmt<
         (mapped t.loop (spec.while_over (closed_at depth) (stmt_at depth)) cursor.old) result cursor.new }
 {
     let (made, height) = while_loop(nest, inner, cursor, depth)?;
-    Ok((Stmt::Loop(made), height))
+    Ok((make::loop_statement(nest.alloc, made)?, height))
 }

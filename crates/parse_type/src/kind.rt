@@ -30,7 +30,8 @@ pub fn result_type(
         return Ok((ResultType::Void(place), 0));
     }
     let (type_node, height) = type_node(alloc, cursor, depth)?;
-    Ok((ResultType::Typed(type_node), height))
+    let boxed = Box::new(alloc, type_node)?;
+    Ok((ResultType::Typed(boxed), height))
 }
 
 // A type where an identifier may come as a name, too.
@@ -94,7 +95,7 @@ pub fn type_before_name(
     alloc: Global,
     cursor: &mut Cursor<'_>,
     depth: usize,
-) -> Result<(Option<TypeNode>, usize), ReadFault>
+) -> Result<(Option<Box<TypeNode>>, usize), ReadFault>
     ensures { GivesHigh view.type_option height.type_option_height depth
         (spec.type_before_name (spec.type_reader depth) cursor.old) result cursor.new }
 {
@@ -102,7 +103,8 @@ pub fn type_before_name(
         return Ok((None, 0));
     }
     let (found, height) = type_past_name(alloc, cursor, depth)?;
-    Ok((Some(found), height))
+    let boxed = Box::new(alloc, found)?;
+    Ok((Some(boxed), height))
 }
 
 /// Reads `var`, `final` with a type or none, or a type (ECMA-408, 8 Variables).
@@ -125,7 +127,8 @@ pub fn kind(
         return Ok((VariableKind::Final(word, found), height));
     }
     let (found, height) = type_node(alloc, cursor, depth)?;
-    Ok((VariableKind::Typed(found), height))
+    let boxed = Box::new(alloc, found)?;
+    Ok((VariableKind::Typed(boxed), height))
 }
 
 /// Reads the same of variables that are declared, or `const` with a type or none (ECMA-408, 8 Variables).

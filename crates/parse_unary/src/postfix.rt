@@ -1,5 +1,5 @@
 // Primaries with selectors behind them, and `++` and `--` behind those.
-ghost use Rattle.std.specs.Prelude.{◌≡◌, ◌≤◌, ◌<◌, ◌&&◌, true, None, Some};
+ghost use Rattle.std.specs.Prelude.{◌≡◌, ◌≤◌, ◌<◌, ◌&&◌, true, IfOk, None, Some};
 ghost use Rattle.dart_tree.specs.Depth as height;
 ghost use Rattle.dart_tree.specs.View as view;
 ghost use Rattle.grammar_laws.specs.Readers.{starts};
@@ -25,7 +25,7 @@ use parse_nest::inside::{Inside, OpenExpr};
 use parse_primary::open::OpenPrimary;
 use parse_primary::primary::primary;
 use parse_primary::selectors::selectors;
-use std::alloc::Global;
+use std::alloc::{AllocError, Global};
 use token_cursor::cursor::Cursor;
 use token_cursor::error::ReadFault;
 
@@ -86,13 +86,16 @@ fn selected<
 
 // The operand of its parts.
 #[tactic(auto, unfolding(dart_tree::specs::View::operand))]
-fn joined(parts: Selected) -> OpenOperand
-    ensures { open_operand result ≡ selected_view parts }
+fn joined(alloc: Global, parts: Selected) -> Result<OpenOperand, AllocError>
+    ensures { IfOk result (λ x. open_operand x ≡ selected_view parts) }
 {
     let ((first, half), more) = parts;
     match more {
-        None => (Operand::Primary(first), half),
-        Some(more) => (make::postfix(first, more, None), None),
+        None => Ok((Operand::Primary(first), half)),
+        Some(more) => {
+            let operand = make::postfix(alloc, first, more, None)?;
+            Ok((operand, None))
+        }
     }
 }
 
@@ -113,7 +116,7 @@ pub fn whole_selected<
     ensures { GivesHigh open_operand open_operand_height depth (spec.whole (selected_reader depth) cursor.old) result cursor.new }
 {
     let (parts, tall) = selected(nest, cursor, depth)?;
-    let (operand, half) = joined(parts);
+    let (operand, half) = joined(nest.alloc, parts)?;
     if is_bare(&operand) {
         drop(operand);
         return Err(ReadFault::Stuck);
@@ -138,7 +141,7 @@ pub fn selected_target<
     ensures { GivesHigh open_operand open_operand_height depth (spec.target (selected_reader depth) cursor.old) result cursor.new }
 {
     let (parts, tall) = selected(nest, cursor, depth)?;
-    let (operand, half) = joined(parts);
+    let (operand, half) = joined(nest.alloc, parts)?;
     if !assigns(&operand) {
         drop(operand);
         return Err(ReadFault::Stuck);
@@ -175,21 +178,24 @@ fn stepped(
     parts: Selected,
     tall: usize,
     operator: Operator,
-) -> (Operand, usize)
+) -> Result<(Operand, usize), AllocError>
     requires steps { spec.steps_behind depth (selected_view parts) ≡ true }
     requires high { tall ≡ selected_height parts }
     requires low { tall ≤ depth }
-    ensures same { (view.operand result.0, None) ≡ spec.stepped (selected_view parts, Some operator) }
-    ensures high { result.1 ≡ height.operand_height (view.operand result.0) }
-    ensures low { result.1 ≤ depth }
+    ensures same { IfOk result (λ x. (view.operand x.0, None) ≡ spec.stepped (selected_view parts, Some operator)) }
+    ensures high { IfOk result (λ x. x.1 ≡ height.operand_height (view.operand x.0)) }
+    ensures low { IfOk result (λ x. x.1 ≤ depth) }
 {
     let ((first, _), more) = parts;
     match more {
-        None => (
-            make::postfix(first, Vec::new(alloc), Some(operator)),
-            tall + 1,
-        ),
-        Some(more) => (make::postfix(first, more, Some(operator)), tall),
+        None => {
+            let operand = make::postfix(alloc, first, Vec::new(alloc), Some(operator))?;
+            Ok((operand, tall + 1))
+        }
+        Some(more) => {
+            let operand = make::postfix(alloc, first, more, Some(operator))?;
+            Ok((operand, tall))
+        }
     }
 }
 
@@ -212,9 +218,10 @@ pub fn postfix<
 {
     let (parts, tall) = selected(nest, cursor, depth)?;
     if !sees_step(cursor, depth, &parts, tall) {
-        return Ok((joined(parts), tall));
+        let alone = joined(nest.alloc, parts)?;
+        return Ok((alone, tall));
     }
     let operator = one_of(cursor, &STEPS)?;
-    let (operand, height) = stepped(nest.alloc, depth, parts, tall, operator);
+    let (operand, height) = stepped(nest.alloc, depth, parts, tall, operator)?;
     Ok(((operand, None), height))
 }

@@ -20,7 +20,7 @@ use Rattle.dart_tree.specs.declared.statement.Body.{Body}
 use Rattle.dart_erase.specs.Erased as erased
 use Rattle.dart_tree.specs.View as view
 use Rattle.dart_tree.specs.Lists.{tails_of, pieces_of, selectors_of, cascades_of, items_of, entries_of, parameter_list_of, metadata_of, stmts_of, more_variables_of, switch_parts_of, try_parts_of}
-use Rattle.dart_tree.proofs.Rows.{view_atom, view_bare_super, view_call, view_expression_stmt, view_function_literal, view_function_stmt, view_jump, view_loop, view_member, view_no_body, view_omitted, view_primary, view_return_stmt, view_variables_stmt}
+use Rattle.dart_tree.proofs.Rows.{view_atom, view_bare_super, view_call, view_expression_stmt, view_jump, view_member, view_no_body, view_omitted, view_primary, view_return_stmt, view_variables_stmt}
 use Rattle.dart_node.proofs.Copies.{become, turn, over}
 use Rattle.dart_erase.proofs.Erasing.{each_cascades, each_entries, each_items, each_metadata, each_more_variables, each_parameter_list, each_pieces, each_selectors, each_stmts, each_switch_parts, each_tails, each_try_parts, erasing_arrow_body, erasing_as_type, erasing_assign, erasing_atom, erasing_bare_super, erasing_binary, erasing_block_body, erasing_block_stmt, erasing_call, erasing_conditional, erasing_do_loop, erasing_expression_stmt, erasing_for_in, erasing_for_loop, erasing_for_variables, erasing_function_literal, erasing_function_stmt, erasing_given, erasing_if_else, erasing_if_stmt, erasing_index, erasing_is_type, erasing_jump, erasing_labelled, erasing_list_literal, erasing_loop, erasing_map_literal, erasing_member, erasing_new_object, erasing_no_body, erasing_omitted, erasing_parenthesized, erasing_plain, erasing_postfix, erasing_prefix, erasing_primary, erasing_return_stmt, erasing_super_access, erasing_switch_stmt, erasing_text, erasing_the_annotation, erasing_the_arguments, erasing_the_block, erasing_the_function, erasing_the_parameter, erasing_the_parameters, erasing_the_variables, erasing_throw, erasing_try_stmt, erasing_variables_stmt, erasing_while_loop, none_cascades, none_entries, none_items, none_metadata, none_more_variables, none_parameter_list, none_pieces, none_selectors, none_stmts, none_switch_parts, none_tails, none_try_parts}
 use Rattle.dart_erase.proofs.+erase.Goals as goal
@@ -41,16 +41,16 @@ pub expression::erase_operand-returns-in_ok-more-in-Binary : goal.expression::er
 expression::erase_operand-returns-in_ok-more-in-Binary t c = become view.operand c.binary.result c.binary.ensures (rw (c.in_ok-first-in-Binary.ensures, c.in_ok-more-in-Binary.ensures, c.deref-in-Binary.ensures) refl ∙ sym (ap (λ (x : Operand). erased.operand (view.operand x)) c.in-Binary.is ∙ erasing_binary c.in-Binary.first c.in-Binary.more))
 
 pub expression::erase_operand-returns-in_ok-type_node-in-Is : goal.expression::erase_operand-returns-in_ok-type_node-in-Is
-expression::erase_operand-returns-in_ok-type_node-in-Is t c = become view.operand c.is_type.result c.is_type.ensures (rw (c.in_ok-operand-in-Is.ensures, c.in_ok-type_node-in-Is.ensures, c.deref-in-Is.ensures) refl ∙ sym (ap (λ (x : Operand). erased.operand (view.operand x)) c.in-Is.is ∙ erasing_is_type c.in-Is.operand c.in-Is.word c.in-Is.bang c.in-Is.type_node))
+expression::erase_operand-returns-in_ok-type_node-in-Is t c = become view.operand c.is_type.result c.is_type.ensures (rw (c.in_ok-operand-in-Is.ensures, c.in_ok-type_node-in-Is.ensures, c.deref-in-Is.ensures, c.deref-in-Is-2.ensures) refl ∙ sym (ap (λ (x : Operand). erased.operand (view.operand x)) c.in-Is.is ∙ erasing_is_type c.in-Is.operand c.in-Is.word c.in-Is.bang c.in-Is.type_node))
 
 pub expression::erase_operand-returns-in_ok-type_node-in-As : goal.expression::erase_operand-returns-in_ok-type_node-in-As
-expression::erase_operand-returns-in_ok-type_node-in-As t c = become view.operand c.as_type.result c.as_type.ensures (rw (c.in_ok-operand-in-As.ensures, c.in_ok-type_node-in-As.ensures, c.deref-in-As.ensures) refl ∙ sym (ap (λ (x : Operand). erased.operand (view.operand x)) c.in-As.is ∙ erasing_as_type c.in-As.operand c.in-As.word c.in-As.type_node))
+expression::erase_operand-returns-in_ok-type_node-in-As t c = become view.operand c.as_type.result c.as_type.ensures (rw (c.in_ok-operand-in-As.ensures, c.in_ok-type_node-in-As.ensures, c.deref-in-As.ensures, c.deref-in-As-2.ensures) refl ∙ sym (ap (λ (x : Operand). erased.operand (view.operand x)) c.in-As.is ∙ erasing_as_type c.in-As.operand c.in-As.word c.in-As.type_node))
 
 pub expression::erase_operand-returns-in_ok-operand-in-Prefix : goal.expression::erase_operand-returns-in_ok-operand-in-Prefix
 expression::erase_operand-returns-in_ok-operand-in-Prefix t c = become view.operand c.prefix.result c.prefix.ensures (rw (c.in_ok-operand-in-Prefix.ensures, c.deref-in-Prefix.ensures) refl ∙ sym (ap (λ (x : Operand). erased.operand (view.operand x)) c.in-Prefix.is ∙ erasing_prefix c.in-Prefix.operator c.in-Prefix.operand))
 
 pub expression::erase_operand-returns-in_ok-selectors-in-Postfix : goal.expression::erase_operand-returns-in_ok-selectors-in-Postfix
-expression::erase_operand-returns-in_ok-selectors-in-Postfix t c = c.postfix.ensures ∙ rw (c.in_ok-primary-in-Postfix.ensures, c.in_ok-selectors-in-Postfix.ensures) refl ∙ sym (ap (λ (x : Operand). erased.operand (view.operand x)) c.in-Postfix.is ∙ erasing_postfix c.in-Postfix.primary c.in-Postfix.selectors c.in-Postfix.operator)
+expression::erase_operand-returns-in_ok-selectors-in-Postfix t c = become view.operand c.postfix.result c.postfix.ensures (rw (c.in_ok-primary-in-Postfix.ensures, c.in_ok-selectors-in-Postfix.ensures, c.deref-in-Postfix.ensures) refl ∙ sym (ap (λ (x : Operand). erased.operand (view.operand x)) c.in-Postfix.is ∙ erasing_postfix c.in-Postfix.primary c.in-Postfix.selectors c.in-Postfix.operator))
 
 pub expression::erase_operand-returns-in_ok-primary-in-Primary : goal.expression::erase_operand-returns-in_ok-primary-in-Primary
 expression::erase_operand-returns-in_ok-primary-in-Primary t c = view_primary c.in_ok-primary-in-Primary.primary ∙ rw (c.in_ok-primary-in-Primary.ensures) refl ∙ sym (ap (λ (x : Operand). erased.operand (view.operand x)) c.in-Primary.is ∙ erasing_primary c.in-Primary.primary)
@@ -68,16 +68,16 @@ pub expression::erase_primary-returns-in_ok-pieces-in-Text : goal.expression::er
 expression::erase_primary-returns-in_ok-pieces-in-Text t c = c.text.ensures ∙ rw (c.in_ok-pieces-in-Text.ensures) refl ∙ sym (ap (λ (x : Primary). erased.primary (view.primary x)) c.in-Text.is ∙ erasing_text c.in-Text.pieces)
 
 pub expression::erase_primary-returns-in_ok-items-in-List : goal.expression::erase_primary-returns-in_ok-items-in-List
-expression::erase_primary-returns-in_ok-items-in-List t c = c.list_literal.ensures ∙ rw (c.in_ok-types-in-List.ensures, c.in_ok-items-in-List.ensures) refl ∙ sym (ap (λ (x : Primary). erased.primary (view.primary x)) c.in-List.is ∙ erasing_list_literal c.in-List.type_arguments c.in-List.opening c.in-List.items c.in-List.comma c.in-List.closing)
+expression::erase_primary-returns-in_ok-items-in-List t c = become view.primary c.list_literal.result c.list_literal.ensures (rw (c.in_ok-types-in-List.ensures, c.in_ok-items-in-List.ensures, c.deref-in-List.ensures) refl ∙ sym (ap (λ (x : Primary). erased.primary (view.primary x)) c.in-List.is ∙ erasing_list_literal c.in-List.type_arguments c.in-List.opening c.in-List.items c.in-List.comma c.in-List.closing))
 
 pub expression::erase_primary-returns-in_ok-entries-in-Map : goal.expression::erase_primary-returns-in_ok-entries-in-Map
-expression::erase_primary-returns-in_ok-entries-in-Map t c = c.map_literal.ensures ∙ rw (c.in_ok-types-in-Map.ensures, c.in_ok-entries-in-Map.ensures) refl ∙ sym (ap (λ (x : Primary). erased.primary (view.primary x)) c.in-Map.is ∙ erasing_map_literal c.in-Map.type_arguments c.in-Map.opening c.in-Map.entries c.in-Map.comma c.in-Map.closing)
+expression::erase_primary-returns-in_ok-entries-in-Map t c = become view.primary c.map_literal.result c.map_literal.ensures (rw (c.in_ok-types-in-Map.ensures, c.in_ok-entries-in-Map.ensures, c.deref-in-Map.ensures) refl ∙ sym (ap (λ (x : Primary). erased.primary (view.primary x)) c.in-Map.is ∙ erasing_map_literal c.in-Map.type_arguments c.in-Map.opening c.in-Map.entries c.in-Map.comma c.in-Map.closing))
 
 pub expression::erase_primary-returns-in_ok-arguments-in-New : goal.expression::erase_primary-returns-in_ok-arguments-in-New
-expression::erase_primary-returns-in_ok-arguments-in-New t c = c.new_object.ensures ∙ rw (c.in_ok-class-in-New.ensures, c.in_ok-constructor-in-New.ensures, c.in_ok-arguments-in-New.ensures) refl ∙ sym (ap (λ (x : Primary). erased.primary (view.primary x)) c.in-New.is ∙ erasing_new_object c.in-New.creation c.in-New.class c.in-New.constructor c.in-New.arguments)
+expression::erase_primary-returns-in_ok-arguments-in-New t c = become view.primary c.new_object.result c.new_object.ensures (rw (c.in_ok-class-in-New.ensures, c.in_ok-constructor-in-New.ensures, c.in_ok-arguments-in-New.ensures, c.deref-in-New.ensures, c.deref-in-New-2.ensures, c.deref-in-New-3.ensures) refl ∙ sym (ap (λ (x : Primary). erased.primary (view.primary x)) c.in-New.is ∙ erasing_new_object c.in-New.creation c.in-New.class c.in-New.constructor c.in-New.arguments))
 
 pub expression::erase_primary-returns-in_ok-body-in-Function : goal.expression::erase_primary-returns-in_ok-body-in-Function
-expression::erase_primary-returns-in_ok-body-in-Function t c = view_function_literal c.in_ok-parameters-in-Function.parameters c.in_ok-body-in-Function.body ∙ rw (c.in_ok-parameters-in-Function.ensures, c.in_ok-body-in-Function.ensures) refl ∙ sym (ap (λ (x : Primary). erased.primary (view.primary x)) c.in-Function.is ∙ erasing_function_literal c.in-Function.parameters c.in-Function.body)
+expression::erase_primary-returns-in_ok-body-in-Function t c = become view.primary c.function_literal.result c.function_literal.ensures (rw (c.in_ok-parameters-in-Function.ensures, c.in_ok-body-in-Function.ensures, c.deref-in-Function.ensures) refl ∙ sym (ap (λ (x : Primary). erased.primary (view.primary x)) c.in-Function.is ∙ erasing_function_literal c.in-Function.parameters c.in-Function.body))
 
 pub expression::erase_primary-returns-in_ok-value-in-Parenthesized : goal.expression::erase_primary-returns-in_ok-value-in-Parenthesized
 expression::erase_primary-returns-in_ok-value-in-Parenthesized t c = become view.primary c.parenthesized.result c.parenthesized.ensures (rw (c.in_ok-value-in-Parenthesized.ensures, c.deref-in-Parenthesized.ensures) refl ∙ sym (ap (λ (x : Primary). erased.primary (view.primary x)) c.in-Parenthesized.is ∙ erasing_parenthesized c.in-Parenthesized.opening c.in-Parenthesized.value c.in-Parenthesized.closing))
@@ -185,7 +185,7 @@ pub statement::erase_stmt-returns-in_ok-variables-in-Variables : goal.statement:
 statement::erase_stmt-returns-in_ok-variables-in-Variables t c = view_variables_stmt c.in_ok-variables-in-Variables.variables ∙ rw (c.in_ok-variables-in-Variables.ensures) refl ∙ sym (ap (λ (x : Stmt). erased.stmt (view.stmt x)) c.in-Variables.is ∙ erasing_variables_stmt c.in-Variables.variables)
 
 pub statement::erase_stmt-returns-in_ok-function-in-Function : goal.statement::erase_stmt-returns-in_ok-function-in-Function
-statement::erase_stmt-returns-in_ok-function-in-Function t c = view_function_stmt c.in_ok-function-in-Function.function ∙ rw (c.in_ok-function-in-Function.ensures) refl ∙ sym (ap (λ (x : Stmt). erased.stmt (view.stmt x)) c.in-Function.is ∙ erasing_function_stmt c.in-Function.function)
+statement::erase_stmt-returns-in_ok-function-in-Function t c = become view.stmt c.function_statement.result c.function_statement.ensures (rw (c.in_ok-function-in-Function.ensures, c.deref-in-Function.ensures) refl ∙ sym (ap (λ (x : Stmt). erased.stmt (view.stmt x)) c.in-Function.is ∙ erasing_function_stmt c.in-Function.function))
 
 pub statement::erase_stmt-returns-in_ok-first-in-If : goal.statement::erase_stmt-returns-in_ok-first-in-If
 statement::erase_stmt-returns-in_ok-first-in-If t c = become view.stmt c.if_statement.result c.if_statement.ensures (rw (c.in_ok-condition-in-If.ensures, c.in_ok-first-in-If.ensures, c.deref-in-If.ensures) refl ∙ sym (ap (λ (x : Stmt). erased.stmt (view.stmt x)) c.in-If.is ∙ erasing_if_stmt c.in-If.word c.in-If.opening c.in-If.condition c.in-If.closing c.in-If.first))
@@ -194,7 +194,7 @@ pub statement::erase_stmt-returns-in_ok-second-in-IfElse : goal.statement::erase
 statement::erase_stmt-returns-in_ok-second-in-IfElse t c = become view.stmt c.if_else.result c.if_else.ensures (rw (c.in_ok-condition-in-IfElse.ensures, c.in_ok-first-in-IfElse.ensures, c.in_ok-second-in-IfElse.ensures, c.deref-in-IfElse.ensures, c.deref-in-IfElse-2.ensures) refl ∙ sym (ap (λ (x : Stmt). erased.stmt (view.stmt x)) c.in-IfElse.is ∙ erasing_if_else c.in-IfElse.word c.in-IfElse.opening c.in-IfElse.condition c.in-IfElse.closing c.in-IfElse.first c.in-IfElse.else_word c.in-IfElse.second))
 
 pub statement::erase_stmt-returns-in_ok-again-in-Loop : goal.statement::erase_stmt-returns-in_ok-again-in-Loop
-statement::erase_stmt-returns-in_ok-again-in-Loop t c = view_loop c.in_ok-again-in-Loop.again ∙ rw (c.in_ok-again-in-Loop.ensures) refl ∙ sym (ap (λ (x : Stmt). erased.stmt (view.stmt x)) c.in-Loop.is ∙ erasing_loop c.in-Loop.again)
+statement::erase_stmt-returns-in_ok-again-in-Loop t c = become view.stmt c.loop_statement.result c.loop_statement.ensures (rw (c.in_ok-again-in-Loop.ensures, c.deref-in-Loop.ensures) refl ∙ sym (ap (λ (x : Stmt). erased.stmt (view.stmt x)) c.in-Loop.is ∙ erasing_loop c.in-Loop.again))
 
 pub statement::erase_stmt-returns-in_ok-parts-in-Switch : goal.statement::erase_stmt-returns-in_ok-parts-in-Switch
 statement::erase_stmt-returns-in_ok-parts-in-Switch t c = c.switch_statement.ensures ∙ rw (c.in_ok-value-in-Switch.ensures, c.in_ok-parts-in-Switch.ensures) refl ∙ sym (ap (λ (x : Stmt). erased.stmt (view.stmt x)) c.in-Switch.is ∙ erasing_switch_stmt c.in-Switch.word c.in-Switch.opening c.in-Switch.value c.in-Switch.closing c.in-Switch.opening_brace c.in-Switch.parts c.in-Switch.closing_brace)

@@ -14,9 +14,10 @@ use dart_tree::expression::{
 use dart_tree::identifier::{DotName, Identifier};
 use dart_tree::operator::Operator;
 use dart_tree::parameter::{
-    Annotation, Brackets, Parameter, ParameterKind, Parameters, Parentheses,
+    Annotation, Brackets, Parameter, ParameterKind, Parameters, Parentheses, ThisDot,
 };
-use dart_tree::types::{TypeArgument, TypeArguments, TypeNode};
+use dart_tree::statement::Body;
+use dart_tree::types::{ResultType, TypeArgument, TypeArguments, TypeNode};
 use std::alloc::{AllocError, Global};
 
 /// `a` or `a..b = c..d()` (ECMA-408, 16.17.2 Cascaded Invocations).
@@ -98,6 +99,7 @@ pub fn is_type(
         t.is_type (view.operand operand) word bang (view.type_node type_node)) }
 {
     let operand = Box::new(alloc, operand)?;
+    let type_node = Box::new(alloc, type_node)?;
     Ok(Operand::Is {
         operand,
         word,
@@ -117,6 +119,7 @@ pub fn as_type(
         t.as_type (view.operand operand) word (view.type_node type_node)) }
 {
     let operand = Box::new(alloc, operand)?;
+    let type_node = Box::new(alloc, type_node)?;
     Ok(Operand::As {
         operand,
         word,
@@ -133,15 +136,21 @@ pub fn prefix(alloc: Global, operator: Operator, operand: Operand) -> Result<Ope
 }
 
 /// `a.b[c](d)`, `a++` or `a.b--` (ECMA-408, 16.31 Postfix Expressions).
-pub fn postfix(primary: Primary, selectors: Vec<Selector>, operator: Option<Operator>) -> Operand
-    ensures { view.operand result ≡
-        t.postfix (view.primary primary) (selectors_of selectors.items) operator }
+pub fn postfix(
+    alloc: Global,
+    primary: Primary,
+    selectors: Vec<Selector>,
+    operator: Option<Operator>,
+) -> Result<Operand, AllocError>
+    ensures { IfOk result (λ x. view.operand x ≡
+        t.postfix (view.primary primary) (selectors_of selectors.items) operator) }
 {
-    Operand::Postfix {
+    let primary = Box::new(alloc, primary)?;
+    Ok(Operand::Postfix {
         primary,
         selectors,
         operator,
-    }
+    })
 }
 
 /// `super.a` and the like (ECMA-408, 16.17.3 Super Invocation).
@@ -161,62 +170,83 @@ pub fn text(pieces: Vec<StringPiece>) -> Primary
 
 /// `<A>[a, b]` (ECMA-408, 16.7 Lists).
 pub fn list_literal(
+    alloc: Global,
     type_arguments: TypeArguments,
     opening: Place,
     items: Vec<Item>,
     comma: Option<Place>,
     closing: Place,
-) -> Primary
-    ensures { view.primary result ≡
+) -> Result<Primary, AllocError>
+    ensures { IfOk result (λ x. view.primary x ≡
         t.list_literal (view.type_arguments type_arguments) opening
-        (items_of items.items) comma closing }
+        (items_of items.items) comma closing) }
 {
-    Primary::List {
+    let type_arguments = Box::new(alloc, type_arguments)?;
+    Ok(Primary::List {
         type_arguments,
         opening,
         items,
         comma,
         closing,
-    }
+    })
 }
 
 /// `<A, B>{a: b, c: d}` (ECMA-408, 16.8 Maps).
 pub fn map_literal(
+    alloc: Global,
     type_arguments: TypeArguments,
     opening: Place,
     entries: Vec<Entry>,
     comma: Option<Place>,
     closing: Place,
-) -> Primary
-    ensures { view.primary result ≡
+) -> Result<Primary, AllocError>
+    ensures { IfOk result (λ x. view.primary x ≡
         t.map_literal (view.type_arguments type_arguments) opening
-        (entries_of entries.items) comma closing }
+        (entries_of entries.items) comma closing) }
 {
-    Primary::Map {
+    let type_arguments = Box::new(alloc, type_arguments)?;
+    Ok(Primary::Map {
         type_arguments,
         opening,
         entries,
         comma,
         closing,
-    }
+    })
 }
 
 /// `new A.b(c)` or `const A.b(c)` (ECMA-408, 16.12 Instance Creation).
 pub fn new_object(
+    alloc: Global,
     creation: Creation,
     class: TypeNode,
     constructor: Option<DotName>,
     arguments: Arguments,
-) -> Primary
-    ensures { view.primary result ≡
-        t.new_object creation (view.type_node class) constructor (view.arguments arguments) }
+) -> Result<Primary, AllocError>
+    ensures { IfOk result (λ x. view.primary x ≡
+        t.new_object creation (view.type_node class) constructor (view.arguments arguments)) }
 {
-    Primary::New {
+    let class = Box::new(alloc, class)?;
+    let constructor = Box::new(alloc, constructor)?;
+    let arguments = Box::new(alloc, arguments)?;
+    Ok(Primary::New {
         creation,
         class,
         constructor,
         arguments,
-    }
+    })
+}
+
+/// `(a) => b` or `(a) { b; }` (ECMA-408, 16.10 Function Expressions).
+pub fn function_literal(
+    alloc: Global,
+    parameters: Parameters,
+    body: Body,
+) -> Result<Primary, AllocError>
+    ensures { IfOk result (λ x. view.primary x ≡
+        t.function_literal (view.parameters parameters) (view.body body)) }
+{
+    let parameters = Box::new(alloc, parameters)?;
+    Ok(Primary::Function(parameters, body))
 }
 
 /// `(a)` (ECMA-408, 16 Expressions).
@@ -304,6 +334,27 @@ pub fn parameters(
         optional,
         closing,
     }
+}
+
+/// `int a(b)`, a parameter that is a function (ECMA-408, 9.2.1 Required Formals).
+pub fn function_parameter(
+    alloc: Global,
+    result_type: Option<ResultType>,
+    this_dot: Option<ThisDot>,
+    name: Identifier,
+    parameters: Parameters,
+) -> Result<ParameterKind, AllocError>
+    ensures { IfOk result (λ x. view.parameter_kind x ≡
+        t.function_parameter (view.result_option result_type) this_dot name
+        (view.parameters parameters)) }
+{
+    let parameters = Box::new(alloc, parameters)?;
+    Ok(ParameterKind::Function {
+        result_type,
+        this_dot,
+        name,
+        parameters,
+    })
 }
 
 /// `@a int b = 1`, with the comma before it (ECMA-408, 9.2 Formal Parameters).

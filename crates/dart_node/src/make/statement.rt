@@ -74,6 +74,22 @@ pub fn function(
     }
 }
 
+/// `a(b) { c; }` (ECMA-408, 17.4 Local Function Declaration).
+pub fn function_statement(alloc: Global, function: Function) -> Result<Stmt, AllocError>
+    ensures { IfOk result (λ x. view.stmt x ≡ t.function_stmt (view.function function)) }
+{
+    let function = Box::new(alloc, function)?;
+    Ok(Stmt::Function(function))
+}
+
+/// `for (a; b; c) d;`, `while (a) b;` and the like (ECMA-408, 17.6 For, 17.7 While and 17.8 Do).
+pub fn loop_statement(alloc: Global, again: Loop) -> Result<Stmt, AllocError>
+    ensures { IfOk result (λ x. view.stmt x ≡ t.loop (view.loop again)) }
+{
+    let again = Box::new(alloc, again)?;
+    Ok(Stmt::Loop(again))
+}
+
 /// `if (a) b;` (ECMA-408, 17.5 If).
 pub fn if_statement(
     alloc: Global,

@@ -40,7 +40,8 @@ pub type_room-returns-in-Loop : goal.type_room-returns-in-Loop
 unfolding open_try
 type_room-returns-in-Loop t c =
     let d = c.args.depth in
-    c.type_room_in.ensures ∙ sym (ap (λ (x : Stmt). room_of d (open_try (view.stmt x))) c.in-Loop.is ∙ ap (λ (x : tree.Stmt). room_of d (open_try x)) (view_loop c.in-Loop.tree))
+    c.type_room_in.ensures ∙ ap (λ (x : Loop). room_of d (open_try_in (view.loop x))) c.deref-in-Loop.ensures
+    ∙ sym (ap (λ (x : Stmt). room_of d (open_try (view.stmt x))) c.in-Loop.is ∙ ap (λ (x : tree.Stmt). room_of d (open_try x)) (view_loop c.in-Loop.tree))
 
 pub type_room-returns-then-ends_open : goal.type_room-returns-then-ends_open
 unfolding open_try

@@ -44,7 +44,7 @@ pub returns : goal.returns
 returns g c =
     let r = c.in_ok-head.ensures in
     let q = c.in_ok-parameters.ensures in
-    let f = c.function_parameter.ensures in
+    let f = c.in_ok-kind.ensures in
     let d = c.args.depth in
     let end = c.parameters.new.cursor in (
       with_parameters (type_reader d) (parameters_at d) c.args.cursor.now (head_of c.in_ok-head.head) c.parameter_head.new.cursor (view.parameters c.in_ok-parameters.parameters) end r.0 (sym c.if-not-parameters_follow.ensures) q.0

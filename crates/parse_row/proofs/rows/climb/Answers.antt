@@ -1,8 +1,9 @@
-use Rattle.std.proofs.Common.{◌≡◌, ◌∙◌, ◌+◌, ℕ, Ok, subst, arith}
+use Rattle.std.proofs.Common.{◌≡◌, ◌∙◌, ◌+◌, ℕ, Ok, sym, subst, arith}
 use Rattle.std.proofs.lemmas.Result.{err_from_is_err_and}
 use Rattle.token_cursor.proofs.Passing.{passes}
 use Rattle.parse_unary.specs.Views.{open_operand, open_operand_height, row_reader}
 use Rattle.parse_row.specs.Rows.{behind}
+use Rattle.parse_row.proofs.Passed.{rows_passed}
 use Rattle.parse_row.proofs.Steps.{climbs_on, row_fails}
 use Rattle.parse_row.proofs.rows.climb.Goals as goal
 
@@ -12,6 +13,11 @@ returns-in_err-first g c =
     let d = c.args.depth in
     rw (p.1, p.2) (passes open_operand open_operand_height d (row_reader d 0 c.args.cursor.now) open_operand open_operand_height d (row_reader d c.args.row c.args.cursor.now) c.in_err-first.field-0.0 c.unary.new.cursor
     (λ end e. row_fails d 0 c.args.row c.args.cursor.now end (omega arith) e) c.in_err-first.ensures)
+
+pub returns-then-passes_rows : goal.returns-then-passes_rows
+returns-then-passes_rows g c =
+    let r = c.in_ok-first.ensures in
+    (rows_passed c.args.depth c.args.row c.args.cursor.now c.unary.new.cursor (open_operand c.in_ok-first.first) r.0 (sym c.if-passes_rows.ensures), r.1, r.2)
 
 pub loop-i-init : goal.loop-i-init
 loop-i-init g c =

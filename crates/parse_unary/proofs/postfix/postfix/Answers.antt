@@ -23,11 +23,11 @@ returns-then-not-sees_step g c =
     let d = c.args.depth in
     let h = c.in_ok-parts.tall in
     let x = selected_view c.in_ok-parts.parts in
-    let y = open_operand c.joined.result in
-    let high = joined_high x y h c.joined.ensures r.1 in (
-      step_absent d c.args.cursor.now c.selected.new.cursor x r.0 (sym c.if-not-sees_step.ensures.comes) ∙ given_open x y c.selected.new.cursor c.joined.ensures,
+    let y = open_operand c.in_ok-alone.alone in
+    let high = joined_high x y h c.in_ok-alone.ensures r.1 in (
+      step_absent d c.args.cursor.now c.selected.new.cursor x r.0 (sym c.if-not-sees_step.ensures.comes) ∙ given_open x y c.selected.new.cursor c.in_ok-alone.ensures,
       high,
-      low_roomy y.0 h d c.requires.some high (joined_low x y h d c.joined.ensures r.2),
+      low_roomy y.0 h d c.requires.some high (joined_low x y h d c.in_ok-alone.ensures r.2),
     )
 
 pub returns-in_err-operator : goal.returns-in_err-operator
@@ -43,7 +43,7 @@ returns g c =
     let r = c.in_ok-parts.ensures in
     let d = c.args.depth in (
       step_gives d c.args.cursor.now c.selected.new.cursor c.one_of.new.cursor (selected_view c.in_ok-parts.parts) c.in_ok-operator.operator r.0 (sym c.if-not-sees_step.ensures.comes) c.in_ok-operator.ensures
-          ∙ ap (λ (y : Open tree.Operand). gave y c.one_of.new.cursor) (sym c.stepped-operand.ensures.same),
-      c.stepped-operand.ensures.high,
-      c.stepped-operand.ensures.low,
+          ∙ ap (λ (y : Open tree.Operand). gave y c.one_of.new.cursor) (sym c.in_ok-operand.ensures.same),
+      c.in_ok-operand.ensures.high,
+      c.in_ok-operand.ensures.low,
     )

@@ -15,15 +15,15 @@ returns-in_err-parts g c =
 pub returns-then-is_bare : goal.returns-then-is_bare
 returns-then-is_bare g c =
     let r = c.in_ok-parts.ensures in
-    whole_refuses c.args.depth c.args.cursor.now c.selected.new.cursor (selected_view c.in_ok-parts.parts) (open_operand c.joined-operand.result) r.0 c.joined-operand.ensures (sym c.if-is_bare.ensures)
+    whole_refuses c.args.depth c.args.cursor.now c.selected.new.cursor (selected_view c.in_ok-parts.parts) (open_operand (c.in_ok-operand.operand, c.in_ok-operand.half)) r.0 c.in_ok-operand.ensures (sym c.if-is_bare.ensures)
 
 pub returns : goal.returns
 returns g c =
     let r = c.in_ok-parts.ensures in
     let d = c.args.depth in
     let x = selected_view c.in_ok-parts.parts in
-    let y = open_operand c.joined-operand.result in (
-      whole_gives d c.args.cursor.now c.selected.new.cursor x y r.0 c.joined-operand.ensures (sym c.if-is_bare.ensures),
-      joined_high x y c.in_ok-parts.tall c.joined-operand.ensures r.1,
-      low_whole y.0 c.in_ok-parts.tall d (sym c.if-is_bare.ensures) (joined_low x y c.in_ok-parts.tall d c.joined-operand.ensures r.2),
+    let y = open_operand (c.in_ok-operand.operand, c.in_ok-operand.half) in (
+      whole_gives d c.args.cursor.now c.selected.new.cursor x y r.0 c.in_ok-operand.ensures (sym c.if-is_bare.ensures),
+      joined_high x y c.in_ok-parts.tall c.in_ok-operand.ensures r.1,
+      low_whole y.0 c.in_ok-parts.tall d (sym c.if-is_bare.ensures) (joined_low x y c.in_ok-parts.tall d c.in_ok-operand.ensures r.2),
     )

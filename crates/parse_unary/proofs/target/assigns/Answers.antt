@@ -21,4 +21,4 @@ returns-in-Postfix c =
     ∙ ap (λ (l : List Selector). postfix_assigns w.operator (selectors_of l)) c.deref.ensures.value
     ∙ sym (ap (λ (x : Operand). assigns (view.operand x)) w.is
     ∙ ap assigns (view_postfix w.primary w.selectors w.operator)
-    ∙ assigns_is (view.primary w.primary) (selectors_of w.selectors.items) w.operator)
+    ∙ assigns_is (view.primary w.primary.value) (selectors_of w.selectors.items) w.operator)

@@ -3,4 +3,4 @@ use Rattle.dart_tree.proofs.Rows.{view_as_type}
 use Rattle.dart_node.proofs.make.expression.as_type.Goals as goal
 
 pub returns : goal.returns
-returns c = view_as_type c.in_ok-operand.operand c.args.word c.args.type_node ∙ rw (c.in_ok-operand.ensures.ok) refl
+returns c = view_as_type c.in_ok-operand.operand c.args.word c.in_ok-type_node.type_node ∙ rw (c.in_ok-operand.ensures.ok, c.in_ok-type_node.ensures.ok) refl

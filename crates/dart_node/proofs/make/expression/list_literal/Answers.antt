@@ -1,5 +1,6 @@
+use Rattle.std.proofs.Common.{◌∙◌, refl}
 use Rattle.dart_tree.proofs.Rows.{view_list_literal}
 use Rattle.dart_node.proofs.make.expression.list_literal.Goals as goal
 
 pub returns : goal.returns
-returns c = view_list_literal c.args.type_arguments c.args.opening c.args.items c.args.comma c.args.closing
+returns c = view_list_literal c.in_ok-type_arguments.type_arguments c.args.opening c.args.items c.args.comma c.args.closing ∙ rw (c.in_ok-type_arguments.ensures.ok) refl
