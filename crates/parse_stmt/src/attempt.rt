@@ -179,6 +179,7 @@ fn handled<
 }
 
 // The parts of a `try`.
+#[inline(never)]
 fn try_parts<
     E: Fn(Global, &mut Cursor<'_>, usize, bool) -> Result<(OpenExpr, usize), ReadFault>,
     P: Fn(Global, &mut Cursor<'_>, usize) -> Result<(Parameters, usize), ReadFault>,
@@ -199,6 +200,7 @@ fn try_parts<
 }
 
 /// Reads a `try` whose parts have at most so many nodes above one another (ECMA-408, 17.11 Try).
+#[inline(never)]
 #[tactic(auto, unfolding(dart_tree::specs::Depth::stmt_height))]
 pub fn try_stmt<
     E: Fn(Global, &mut Cursor<'_>, usize, bool) -> Result<(OpenExpr, usize), ReadFault>,

@@ -125,6 +125,7 @@ fn else_follows(head: &IfHead, cursor: &Cursor<'_>) -> bool
 }
 
 /// Reads an `if` whose parts have at most so many nodes above one another (ECMA-408, 17.5 If).
+#[inline(never)]
 pub fn if_stmt<
     E: Fn(Global, &mut Cursor<'_>, usize, bool) -> Result<(OpenExpr, usize), ReadFault>,
     P: Fn(Global, &mut Cursor<'_>, usize) -> Result<(Parameters, usize), ReadFault>,

@@ -148,6 +148,7 @@ fn for_end<
 }
 
 // A `for` that begins with an expression or none (17.6.1 For Loop).
+#[inline(never)]
 #[tactic(auto, unfolding(syntax_readers::specs::Statements::for_loop_over, dart_tree::specs::Depth::loop_height))]
 fn for_loop<
     E: Fn(Global, &mut Cursor<'_>, usize, bool) -> Result<(OpenExpr, usize), ReadFault>,
@@ -190,6 +191,7 @@ fn for_loop<
 }
 
 // A `for` that begins with variables (17.6.1 For Loop).
+#[inline(never)]
 #[tactic(auto, unfolding(syntax_readers::specs::Statements::for_variables_over, dart_tree::specs::Depth::loop_height))]
 fn for_variables<
     E: Fn(Global, &mut Cursor<'_>, usize, bool) -> Result<(OpenExpr, usize), ReadFault>,
@@ -230,6 +232,7 @@ fn for_variables<
 }
 
 // A `for` over what an expression gives (17.6.2 For-in).
+#[inline(never)]
 #[tactic(auto, unfolding(syntax_readers::specs::Statements::for_in_over, dart_tree::specs::Depth::loop_height))]
 fn for_in<
     E: Fn(Global, &mut Cursor<'_>, usize, bool) -> Result<(OpenExpr, usize), ReadFault>,
@@ -326,6 +329,7 @@ fn any_for<
 }
 
 /// Reads a `for` whose parts have at most so many nodes above one another (ECMA-408, 17.6 For).
+#[inline(never)]
 #[tactic(auto, unfolding(dart_tree::specs::Depth::stmt_height))]
 pub fn for_stmt<
     E: Fn(Global, &mut Cursor<'_>, usize, bool) -> Result<(OpenExpr, usize), ReadFault>,
@@ -385,6 +389,7 @@ fn while_loop<
 }
 
 /// Reads a `while` whose parts have at most so many nodes above one another (ECMA-408, 17.7 While).
+#[inline(never)]
 #[tactic(auto, unfolding(dart_tree::specs::Depth::stmt_height))]
 pub fn while_stmt<
     E: Fn(Global, &mut Cursor<'_>, usize, bool) -> Result<(OpenExpr, usize), ReadFault>,

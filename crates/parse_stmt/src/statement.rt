@@ -75,6 +75,7 @@ pub fn compound_over<
 }
 
 /// Reads a statement that is a node (ECMA-408, 17 Statements).
+#[inline(never)]
 pub fn compound<
     E: Fn(Global, &mut Cursor<'_>, usize, bool) -> Result<(OpenExpr, usize), ReadFault>,
     P: Fn(Global, &mut Cursor<'_>, usize) -> Result<(Parameters, usize), ReadFault>,
@@ -100,6 +101,7 @@ pub fn compound<
 }
 
 // A block as a statement.
+#[inline(never)]
 #[tactic(auto, unfolding(dart_tree::specs::Depth::stmt_height))]
 fn block_stmt<
     E: Fn(Global, &mut Cursor<'_>, usize, bool) -> Result<(OpenExpr, usize), ReadFault>,
