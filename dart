@@ -60,20 +60,23 @@ show_progress() {
     done
 }
 
+# Proves and builds the libraries that the program stands on, each by itself and not from all the sources below it.
+prove_libraries() {
+    for name in $(crates); do
+        [ "$name" = dart ] || (cd -- "$root/crates/$name" && rt lib) || return
+    done
+}
+
 # Proves and builds the program by a run of it, whose answer is known.
 build() {
     command -v rt >/dev/null || fail "the toolchain's command rt isn't on the path"
     say 'proving and building the program; the first time takes an hour or more'
-    say "unproved, a program runs in seconds: cd $root/crates/dart && rt try --data a.dart=FILE -- run a.dart"
+    say "unproved, a program runs after a minute or two: cd $root/crates/dart && rt try --data a.dart=FILE -- run a.dart"
     before=$("$root/.ci/sources")
     : >"$log"
     show_progress >/dev/null 9>&- &
     showing=$!
-    for name in $(crates); do
-        # A crate whose libraries are built is proved by itself, and not from all their sources.
-        [ "$name" = dart ] || (cd -- "$root/crates/$name" && rt lib) >>"$log" 2>&1 </dev/null 9>&- || break
-    done
-    answer=$(cd -- "$root/crates/dart" && rt run -- run data/a.dart 2>>"$log" </dev/null 9>&-)
+    answer=$({ prove_libraries >&2 && cd -- "$root/crates/dart" && rt run -- run data/a.dart; } 2>"$log" </dev/null 9>&-)
     status=$?
     kill "$showing" 2>/dev/null
     if [ "$status" != 0 ] || [ "$answer" != 3 ]; then
@@ -91,6 +94,6 @@ if ! is_current; then
     is_current || build
     exec 9>&-
 fi
-# A tree of 300 nodes above one another takes up to 13 MB of stack to read, and more than some systems give.
+# A tree of 300 nodes above one another takes up to 5 MB of stack to read, and that is more than some systems give.
 ulimit -s 32768 2>/dev/null || :
 exec "$program" "$@"
