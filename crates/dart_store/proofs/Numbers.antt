@@ -3,7 +3,7 @@ use Rattle.std.proofs.Common.{◌≡◌, ℕ, zero, suc, ◌+◌, ◌<◌, ◌�
 use Rattle.std.specs.Prelude.{slice_get, Result, Ok, Err, OnOk, OnErr, is_err, map}
 use Rattle.dart_ir.specs.declared.value.Value.{Value}
 use Rattle.dart_ir.specs.Object.{HeapObject, instance, list, text, closure, bound, type_value, send_port, receive_port, cell}
-use Rattle.dart_store.specs.Heap.{cost, is_cell, count_shown, numbers_from, put, changed, with_field, with_item, first_items}
+use Rattle.dart_store.specs.Heap.{cost, is_cell, count_shown, numbers_from, put, changed, with_field, with_item, first_items, with_inserted, without_item, with_nulls}
 
 abbrev one : HeapObject → ℕ
 one object = if is_cell object then 0 else 1
@@ -86,6 +86,39 @@ first_same count (type_value type) = refl
 first_same count (send_port isolate port) = refl
 first_same count (receive_port port) = refl
 first_same count (cell old counted) = refl
+
+pub inserted_same : (i : ℕ) (value : Value) (object : HeapObject) → is_cell (with_inserted i value object) ≡ is_cell object
+inserted_same i value (instance class args fields) = refl
+inserted_same i value (list args items fixed) = refl
+inserted_same i value (text units) = refl
+inserted_same i value (closure function receiver args cells) = refl
+inserted_same i value (bound receiver member) = refl
+inserted_same i value (type_value type) = refl
+inserted_same i value (send_port isolate port) = refl
+inserted_same i value (receive_port port) = refl
+inserted_same i value (cell old counted) = refl
+
+pub removed_same : (i : ℕ) (object : HeapObject) → is_cell (without_item i object) ≡ is_cell object
+removed_same i (instance class args fields) = refl
+removed_same i (list args items fixed) = refl
+removed_same i (text units) = refl
+removed_same i (closure function receiver args cells) = refl
+removed_same i (bound receiver member) = refl
+removed_same i (type_value type) = refl
+removed_same i (send_port isolate port) = refl
+removed_same i (receive_port port) = refl
+removed_same i (cell old counted) = refl
+
+pub nulls_same : (count : ℕ) (object : HeapObject) → is_cell (with_nulls count object) ≡ is_cell object
+nulls_same count (instance class args fields) = refl
+nulls_same count (list args items fixed) = refl
+nulls_same count (text units) = refl
+nulls_same count (closure function receiver args cells) = refl
+nulls_same count (bound receiver member) = refl
+nulls_same count (type_value type) = refl
+nulls_same count (send_port isolate port) = refl
+nulls_same count (receive_port port) = refl
+nulls_same count (cell old counted) = refl
 
 -- an object that shows a number costs a unit
 pub shown_costs : (object : HeapObject) → one object ≤ cost object

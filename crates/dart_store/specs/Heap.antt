@@ -1,5 +1,5 @@
 -- An isolate's heap: its objects in the order in which they were added, its static variables, and the units that it uses of its limit.
-use Rattle.std.specs.Prelude.{ℕ, zero, suc, ◌+◌, ◌/◌, List, [], ◌∷◌, ◌++◌, length, take, Option, Some, None, Bool, true, false, if◌then◌else◌, slice_get, slice_set, slice_index_or}
+use Rattle.std.specs.Prelude.{ℕ, zero, suc, ◌+◌, ◌/◌, List, [], ◌∷◌, ◌++◌, length, take, insert, remove, replicate, ◌*◌, Option, Some, None, Bool, true, false, if◌then◌else◌, slice_get, slice_set, slice_index_or}
 use Rattle.dart_ir.specs.declared.value.Value.{Value}
 use Rattle.dart_ir.specs.declared.value.Value.TheVariants.{Null}
 use Rattle.dart_ir.specs.Object.{HeapObject, instance, list, text, closure, bound, type_value, send_port, receive_port, cell}
@@ -103,6 +103,21 @@ abbrev pub first_items : ℕ → HeapObject → HeapObject
 first_items count (list args items fixed) = list args (take count items) fixed
 first_items count object = object
 
+-- an item put before place i of a list, or at its end where it has no such place
+abbrev pub with_inserted : ℕ → Value → HeapObject → HeapObject
+with_inserted i value (list args items fixed) = list args (insert items i value) fixed
+with_inserted i value object = object
+
+-- a list without its item i
+abbrev pub without_item : ℕ → HeapObject → HeapObject
+without_item i (list args items fixed) = list args (remove items i) fixed
+without_item i object = object
+
+-- so many nulls more
+abbrev pub with_nulls : ℕ → HeapObject → HeapObject
+with_nulls count (list args items fixed) = list args (items ++ replicate count Null) fixed
+with_nulls count object = object
+
 -- what an item more costs: nothing where there is no list
 abbrev pub item_cost : Option HeapObject → ℕ
 item_cost (Some (list args items fixed)) = 1
@@ -119,6 +134,21 @@ with_item_at h r value = record h {
 
 abbrev pub with_first_items : Heap → ℕ → ℕ → Heap
 with_first_items h r count = record h { objects = changed (first_items count) r h.objects }
+
+abbrev pub with_inserted_at : Heap → ℕ → ℕ → Value → Heap
+with_inserted_at h r i value = record h {
+  objects = changed (with_inserted i value) r h.objects;
+  used = h.used + item_cost (slice_get h.objects r);
+}
+
+abbrev pub without_item_at : Heap → ℕ → ℕ → Heap
+without_item_at h r i = record h { objects = changed (without_item i) r h.objects }
+
+abbrev pub with_nulls_at : Heap → ℕ → ℕ → Heap
+with_nulls_at h r count = record h {
+  objects = changed (with_nulls count) r h.objects;
+  used = h.used + item_cost (slice_get h.objects r) * count;
+}
 
 -- ---- the number that an object shows
 
