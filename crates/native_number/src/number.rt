@@ -137,7 +137,8 @@ fn shifted_right(x: i128, y: i128) -> Answer
     if x < 0 { whole(-1) } else { whole(0) }
 }
 
-fn number_of(value: Value) -> Option<i128>
+/// The integer that a value is, if it is one.
+pub fn number_of(value: Value) -> Option<i128>
     ensures { result ≡ spec.number_of value }
 {
     match value {

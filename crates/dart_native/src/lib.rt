@@ -1,0 +1,6 @@
+// The natives: what each does, and the steps that it takes.
+#![tactic(auto)]
+
+pub mod native;
+#[cfg(test)]
+mod tests;
