@@ -1,0 +1,13 @@
+pub mod Logic
+pub mod Chapters
+pub mod Cases
+pub mod Calls
+pub mod Forms
+pub mod Kept
+pub mod Agreed
+pub mod Loops
+pub mod Takes
+pub mod Rounds
+pub mod Written
+pub mod Unread
+pub mod Found

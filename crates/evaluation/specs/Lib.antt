@@ -1,0 +1,20 @@
+pub mod State
+pub mod Sequence
+pub mod Classes
+pub mod Values
+pub mod Objects
+pub mod Parts
+pub mod Variables
+pub mod Arguments
+pub mod Invocation
+pub mod Types
+pub mod Creation
+pub mod Statements
+pub mod Externals
+pub mod Evaluation
+pub mod Prelude
+pub mod Checks
+pub mod Turn
+pub mod Laws
+-- means of proof
+pub mod Examples
