@@ -1,0 +1,37 @@
+-- Small facts of translation.
+use Rattle.std.proofs.Common.{◌≡◌, refl, [], ◌∷◌, None, true, false}
+use Rattle.core_program.specs.Core as c
+use Rattle.core_program.specs.declared.form.Way.TheVariants as way
+use Rattle.dart_base.specs.declared.place.Place.{Place}
+use Rattle.dart_ir.specs.declared.kind.SiteKind.TheVariants as kind
+use Rattle.dart_tree.specs.Tree as t
+use Rattle.dart_tree.specs.declared.expression.Atom.TheVariants as a
+use Rattle.dart_tree.specs.declared.statement.Jump.TheVariants as j
+use Rattle.translation.specs.Productions.{expr, stmt}
+use Rattle.translation.specs.References.{truth}
+use Rattle.translation.specs.Walk.{State, went, refused, bad_label, bad_word, on, leaving}
+
+pub break_needs_a_target : (st : State) (word semicolon : Place) →
+    stmt (t.jump (j.Break word None semicolon)) [] (record st { targets = [] }) ≡ refused (bad_label word)
+unfolding on
+break_needs_a_target st word semicolon = refl
+
+pub this_needs_an_instance : (st : State) (word : Place) →
+    expr (t.plain (t.primary (t.atom (a.This word))) t.no_cascades) (record st { inside = record st.inside { has_instance = false } }) ≡ refused (bad_word word)
+unfolding on
+this_needs_an_instance st word = refl
+
+pub while_is_a_loop : (st : State) (word opening test closing jump semicolon : Place) →
+    stmt (t.loop (t.while_loop word opening (t.plain (t.primary (t.atom (a.True test))) t.no_cascades) closing (t.jump (j.Break jump None semicolon)))) []
+    (record st { targets = []; scopes = []; sites = [] }) ≡
+    went (c.at word (c.loop 0 [] (c.given (c.at test (c.unary (c.check 1) (c.at test (c.unary (c.check 0) (truth test true)))))) c.missing
+    (c.given (c.at jump (c.leaf (c.jump way.Break 0))))) ∷ [])
+    (record st {
+      targets = [];
+      scopes = [];
+      sites =
+          record { place = test; kind = kind.Condition; required = None; annotated = false } ∷
+          record { place = test; kind = kind.NullCondition; required = None; annotated = false } ∷ [];
+    })
+unfolding on leaving
+while_is_a_loop st word opening test closing jump semicolon = refl

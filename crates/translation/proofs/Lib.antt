@@ -1,0 +1,17 @@
+mod Kept
+mod Ends
+mod Firsts
+mod TypesSame
+mod Referred
+mod Expressed
+mod Stated
+mod Closed
+mod Parameters
+mod Bared
+mod Declared
+mod Classed
+mod Members
+mod Whole
+mod Either
+mod Again
+mod Facts

@@ -1,0 +1,17 @@
+pub mod Surroundings
+pub mod Walk
+pub mod Types
+pub mod Firsts
+pub mod References
+pub mod Strings
+pub mod Expressions
+pub mod Statements
+pub mod Functions
+pub mod Productions
+pub mod LinedLeaf
+pub mod Lined
+pub mod Declarations
+pub mod LinedUnit
+pub mod Classes
+pub mod ClassBodies
+pub mod Program

@@ -1,0 +1,195 @@
+-- The core of a program (ECMA-408, 18 Libraries and Scripts): its units in order, and then what is added to its classes.
+use Rattle.std.specs.Prelude.{ℕ, List, [], ◌∷◌, ◌++◌, map, length, nat_eq, None, Bool, true, false, if◌then◌else◌}
+use Rattle.dart_tree.specs.Unit as u
+use Rattle.dart_erase.specs.UnitErased as erased
+use Rattle.dart_ir.specs.Ty.{dynamic}
+use Rattle.core_program.specs.declared.program.FunctionKind.TheVariants.{Absent}
+use Rattle.core_program.specs.Core as c
+use Rattle.core_program.specs.Program as p
+use Rattle.core_program.specs.Alike as alike
+use Rattle.core_program.specs.Stripped as stripped
+use Rattle.translation.specs.Surroundings.{Text, Names, Tables}
+use Rattle.translation.specs.Walk.{Reason, left_out, not_constant, bad_label, bad_constructor, bad_switch, bad_word, too_large, unasked, Made, State, Went, Walk, went, refused, on}
+use Rattle.translation.specs.Functions as f
+use Rattle.translation.specs.Declarations as d
+use Rattle.translation.specs.ClassBodies as b
+use Rattle.translation.specs.LinedUnit as lined
+
+-- ---- declarations
+
+abbrev pub no_class : Walk ℕ → Walk (List b.ClassMade)
+no_class walk st = on (walk st) (λ n st. went [] st)
+
+abbrev pub alias_declared : u.Alias → Walk ℕ
+alias_declared x st = on (f.numbered st) (λ n st. b.parameters_kept x.type_parameters st)
+
+abbrev pub enum_declared : Walk ℕ
+enum_declared st = f.numbered (record st { has_constants = true })
+
+abbrev pub declaration : u.DeclKind → Walk (List b.ClassMade)
+declaration (u.class_decl x) st = on (b.class_declared x st) (λ made st. went (made ∷ []) st)
+declaration (u.alias_decl x) st = no_class (alias_declared x) st
+declaration (u.function_decl x) st = no_class (d.declared_function d.static_standing (d.function_declared x)) st
+declaration (u.accessor_decl x) st = no_class (d.declared_function d.static_standing (d.accessor_declared x)) st
+declaration (u.variables_decl x) st = no_class (d.variables_declared x) st
+declaration (u.enum_decl x) st = no_class enum_declared st
+
+abbrev pub declarations : List u.Decl → Walk (List b.ClassMade)
+declarations [] st = went [] st
+declarations (x ∷ xs) st = on (declaration x.kind st)
+    (λ made st. on (declarations xs st) (λ more st. went (made ++ more) st))
+
+-- ---- units
+
+-- the declarations of a unit, with what the names of its library mean
+pub record SourceUnit : Type 0 where
+  pub names : Names
+  pub declarations : List u.Decl
+
+abbrev pub units : List SourceUnit → Walk (List b.ClassMade)
+units [] st = went [] st
+units (x ∷ xs) st = on (declarations x.declarations (record st { names = x.names }))
+    (λ made st. on (units xs st) (λ more st. went (made ++ more) st))
+
+abbrev pub class_numbered : ℕ → List b.ClassMade → Walk ℕ
+class_numbered n [] st = went 0 st
+class_numbered n (x ∷ xs) st = if nat_eq x.class n then b.class_added x st else class_numbered n xs st
+
+-- class by class, in the order of the table
+abbrev pub added : List ℕ → List b.ClassMade → Walk ℕ
+added [] made st = went 0 st
+added (n ∷ ns) made st = on (class_numbered n made st) (λ k st. added ns made st)
+
+-- ---- programs
+
+-- what is translated: the units, and the table of their classes
+pub record Given : Type 0 where
+  pub units : List SourceUnit
+  pub first_names : Names
+  pub tables : Tables
+  pub files : List Text
+  pub classes : List (p.Class Text)
+  pub members : List (p.Member Text)
+  pub function_class : ℕ
+  pub main : ℕ
+
+abbrev pub start : Given → State
+start given = record {
+  names = given.first_names;
+  tables = given.tables;
+  inside = record { class = None; has_instance = false; result = unasked; gives_value = true; in_handler = false };
+  scopes = [];
+  targets = [];
+  variables = 0;
+  declarations = 0;
+  sites = [];
+  literals = [];
+  functions = [];
+  statics = [];
+  has_constants = false;
+}
+
+-- what is no function, and what is no variable
+abbrev pub no_function : p.Function Text
+no_function = record {
+  name = [];
+  kind = Absent;
+  class = None;
+  parameters = [];
+  vars = 0;
+  cells = [];
+  captures = [];
+  signature = dynamic;
+  body = c.missing;
+}
+
+abbrev pub no_static : p.Static Text
+no_static = record { name = []; vars = 0; cells = []; init = c.missing; is_final = false }
+
+-- by the number of the declaration
+abbrev pub made_as : {A : Type 0} → A → List (Made A) → ℕ → A
+made_as otherwise [] n = otherwise
+made_as otherwise (x ∷ xs) n = if nat_eq x.number n then x.made else made_as otherwise xs n
+
+abbrev pub table : {A : Type 0} → A → List (Made A) → ℕ → List A
+table otherwise made count = map (made_as otherwise made) (f.below count)
+
+abbrev pub program : Given → State → p.Program Text
+program given st = record {
+  units = given.files;
+  classes = given.classes;
+  members = given.members;
+  function_class = given.function_class;
+  functions = table no_function st.functions st.declarations;
+  statics = table no_static st.statics st.declarations;
+  sites = st.sites;
+  literals = st.literals;
+  constants = [];
+  main = given.main;
+}
+
+-- the core of a program, the first reason for which it has none, or that it has constants, whose cores are left open here
+pub data Answer : Type 0 where
+  accepted : p.Program Text → Answer
+  rejected : Reason → Answer
+  not_built : Answer
+
+abbrev pub built : Bool → p.Program Text → Answer
+built true made = not_built
+built false made = accepted made
+
+abbrev pub answer : Given → Went ℕ → Answer
+answer given (went n st) = built st.has_constants (program given st)
+answer given (refused reason) = rejected reason
+
+abbrev pub walk : Given → Walk ℕ
+walk given st = on (units given.units st) (λ made st. added (f.below (length given.classes)) made st)
+
+abbrev pub core : Given → Answer
+core given = answer given (walk given (start given))
+
+-- ---- what is alike
+
+abbrev pub reason : Reason → Reason
+reason (left_out place feature) = left_out (alike.line place) feature
+reason (not_constant place) = not_constant (alike.line place)
+reason (bad_label place) = bad_label (alike.line place)
+reason (bad_constructor place) = bad_constructor (alike.line place)
+reason (bad_switch place) = bad_switch (alike.line place)
+reason (bad_word place) = bad_word (alike.line place)
+reason (too_large place) = too_large (alike.line place)
+
+-- what is left of an answer once annotations and columns are forgotten
+abbrev pub forgotten : Answer → Answer
+forgotten (accepted made) = accepted (alike.program (stripped.program made))
+forgotten (rejected why) = rejected (reason why)
+forgotten not_built = not_built
+
+abbrev pub tables_without : Tables → Tables
+tables_without x = record x { variable_type = λ n. None; alias_type = λ n given. dynamic }
+
+abbrev pub erased_unit : SourceUnit → SourceUnit
+erased_unit x = record x { declarations = map erased.decl x.declarations }
+
+abbrev pub lined_unit : SourceUnit → SourceUnit
+lined_unit x = record x { declarations = map lined.decl x.declarations }
+
+abbrev pub bare_unit : SourceUnit → SourceUnit
+bare_unit x = record x { declarations = map (λ (y : u.Decl). lined.decl (erased.decl y)) x.declarations }
+
+-- the program of the erased units
+abbrev pub erased_given : Given → Given
+erased_given x = record x { units = map erased_unit x.units }
+
+-- A program without columns, and without what its tables have from annotations.
+abbrev pub lines : Given → Given
+lines x = record x {
+  units = map lined_unit x.units;
+  tables = tables_without x.tables;
+  classes = map alike.class x.classes;
+  members = map (λ (y : p.Member Text). alike.member (stripped.member y)) x.members;
+}
+
+-- the lines of the program of the erased units
+abbrev pub bare : Given → Given
+bare x = record (lines x) { units = map bare_unit x.units }

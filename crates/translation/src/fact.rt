@@ -1,0 +1,60 @@
+// Small facts of translation, each about one form.
+ghost use Rattle.std.specs.Prelude.{◌≡◌, List, [], ◌∷◌, None, true, false};
+ghost use Rattle.core_program.specs.Core as c;
+ghost use Rattle.core_program.specs.Program as p;
+ghost use Rattle.core_program.specs.declared.form.Way.TheVariants as way;
+ghost use Rattle.dart_base.specs.declared.place.Place.{Place};
+ghost use Rattle.dart_ir.specs.declared.kind.SiteKind.TheVariants as kind;
+ghost use Rattle.dart_tree.specs.Tree as t;
+ghost use Rattle.dart_tree.specs.declared.expression.Atom.TheVariants as a;
+ghost use Rattle.dart_tree.specs.declared.statement.Jump.TheVariants as j;
+ghost use Rattle.translation.specs.Productions.{expr, stmt};
+ghost use Rattle.translation.specs.References.{truth};
+ghost use Rattle.translation.specs.Surroundings.{Text};
+ghost use Rattle.translation.specs.Walk.{State, went, refused, bad_label, bad_word};
+
+/// `break;` outside of every loop and switch has no target.
+pub fn break_needs_a_target()
+    ensures { (st : State) (word semicolon : Place) →
+        stmt (t.jump (j.Break word None semicolon)) [] (record st { targets = [] })
+        ≡ refused (bad_label word) }
+{}
+
+/// `this` where there is no instance.
+pub fn this_needs_an_instance()
+    ensures { (st : State) (word : Place) →
+        expr (t.plain (t.primary (t.atom (a.This word))) t.no_cascades)
+        (record st { inside = record st.inside { has_instance = false } })
+        ≡ refused (bad_word word) }
+{}
+
+/// `while (true) break;` is a loop whose body leaves it, and whose condition is tested twice.
+pub fn while_is_a_loop()
+    ensures { (st : State) (word opening test closing jump semicolon : Place) →
+        stmt
+        (t.loop (t.while_loop word opening
+        (t.plain (t.primary (t.atom (a.True test))) t.no_cascades) closing
+        (t.jump (j.Break jump None semicolon))))
+        [] (record st { targets = []; scopes = []; sites = [] })
+        ≡ went
+        (c.at word (c.loop 0 []
+        (c.given (c.at test (c.unary (c.check 1)
+        (c.at test (c.unary (c.check 0) (truth test true))))))
+        c.missing
+        (c.given (c.at jump (c.leaf (c.jump way.Break 0))))) ∷ [])
+        (record st {
+          targets = [];
+          scopes = [];
+          sites = record {
+            place = test;
+            kind = kind.Condition;
+            required = None;
+            annotated = false;
+          } ∷ record {
+            place = test;
+            kind = kind.NullCondition;
+            required = None;
+            annotated = false;
+          } ∷ [];
+        }) }
+{}
