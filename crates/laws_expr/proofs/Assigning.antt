@@ -51,7 +51,7 @@ abbrev pub OperatorFits : Option Place → Operator → Type 0
 OperatorFits None = (l.one_of assignment_signs).Fits
 OperatorFits (Some first) = Made (o.ShiftRightAssign first) Anything
 
-abbrev operator_front : Option Place → Front Token
+abbrev pub operator_front : Option Place → Front Token
 operator_front None = (l.one_of assignment_signs).front
 operator_front (Some first) = (l.sign s.GreaterEqual).front
 
@@ -63,7 +63,7 @@ one_of_said (y ∷ more) x (inr fits) = one_of_said more x fits
 distinct_signs : Distinct assignment_signs
 distinct_signs = (apart refl, (apart refl, (apart refl, (apart refl, (apart refl, (apart refl, (apart refl, (apart refl, (apart refl, (apart refl, (apart refl, tt)))))))))))
 
-operator_laws : (h : Option Place) → Laws class_of (assignment_operator h) second_tokens (OperatorFits h) (operator_front h) (assign_codes h) nowhere false
+pub operator_laws : (h : Option Place) → Laws class_of (assignment_operator h) second_tokens (OperatorFits h) (operator_front h) (assign_codes h) nowhere false
 unfolding assignment_operator
 operator_laws None = respelled (one_of_reads assignment_signs distinct_signs) second_tokens (λ x fits. one_of_said assignment_signs x fits)
 operator_laws (Some first) = made_laws (sign_reads s.GreaterEqual) (o.ShiftRightAssign first) second_tokens nowhere (λ place fits. refl) (λ place fits. within_self [])
@@ -84,16 +84,16 @@ module _ {A : Type 0} (may : A → Bool) {base : Front Token} {read : Reader Tok
   abbrev codes : Open A → List ℕ
   codes x = assign_codes x.1
 
-  abbrev assigned_spell : Assigned → List Token
+  abbrev pub assigned_spell : Assigned → List Token
   assigned_spell = both_spelling second_tokens (open_spelling expr_tokens)
 
   abbrev pub AssignedFits : Open A → Assigned → Type 0
   AssignedFits x = BothFit (OperatorFits x.1) W.Fits
 
-  abbrev assigned_front : Open A → Front Token
+  abbrev pub assigned_front : Open A → Front Token
   assigned_front x = Joint second_tokens (OperatorFits x.1) always (operator_front x.1) efront
 
-  assigned_laws : (x : Open A) → Laws class_of (assignment x.1 expr) assigned_spell (AssignedFits x) (assigned_front x) (codes x) (λ y. after_open after_e half_e y.1) false
+  pub assigned_laws : (x : Open A) → Laws class_of (assignment x.1 expr) assigned_spell (AssignedFits x) (assigned_front x) (codes x) (λ y. after_open after_e half_e y.1) false
   unfolding assignment
   assigned_laws x = both_laws (operator_laws x.1) W.laws (λ y fits. apart_none expr_first)
 
@@ -121,7 +121,7 @@ module _ {A : Type 0} (may : A → Bool) {base : Front Token} {read : Reader Tok
   abbrev pub PartsFit : Open A × Option Assigned → Type 0
   PartsFit = ContinuedFitBy H.Fits never may_open AssignedFits
 
-  abbrev Read : Front Token
+  abbrev pub Read : Front Token
   Read = JointBy (open_spelling tokens) H.Fits may_open (Joint tokens F may base (l.sign s.Greater).front) assigned_front
 
   -- the fronts, as the grammar has them
@@ -140,7 +140,7 @@ module _ {A : Type 0} (may : A → Bool) {base : Front Token} {read : Reader Tok
   half_out first more (inr (x, rest, (second, at, is), on, e, f)) =
       inr (o.ShiftRightAssign first second, rest, inr ((first, second), (tt, tt), refl), refl, ap (λ (m : List Token). half_tokens first ++ m) (e ∙ ap (λ (y : Operator). second_tokens y ++ rest) (sym is)), f)
 
-  out : (ts : List Token) → Read ts → Said ts
+  pub out : (ts : List Token) → Read ts → Said ts
   out ts (inl (inl f)) = inl f
   out ts (inl (inr (x, more, fits, on, e, f))) = inr (x, more, fits, on, e, inl (inr (inl f)))
   out ts (inr ((x, None), more, fits, on, e, f)) = inr (x, more, H.none_out x fits, on, e ∙ ap (λ (m : List Token). m ++ more) (append-nil (tokens x)), no_half_out more f)
@@ -162,7 +162,7 @@ module _ {A : Type 0} (may : A → Bool) {base : Front Token} {read : Reader Tok
           inr (o.ShiftRightAssign g second, rest, (second, tt, refl), refl, refl, f),
         )
 
-    into : (ts : List Token) → Said ts → Read ts
+    pub into : (ts : List Token) → Said ts → Read ts
     into ts (inl f) = inl (inl f)
     into ts (inr (x, more, fits, on, e, f)) = into_behind x ts more fits on e f
 

@@ -75,38 +75,38 @@ last_half_on x = half_moves (λ next opens. cascades_take next opens question (o
 
 -- ---- the list
 
-abbrev drop : List (Open Cascade) → List (Place × (Selectors × Value))
+abbrev pub drop : List (Open Cascade) → List (Place × (Selectors × Value))
 drop [] = []
 drop (x ∷ more) = x.0 ∷ drop more
 
-abbrev keep : List (Place × (Selectors × Value)) → List (Open Cascade)
+abbrev pub keep : List (Place × (Selectors × Value)) → List (Open Cascade)
 keep [] = []
 keep (x ∷ more) = (x, None) ∷ keep more
 
-cascades_drop : (all : List (Open Cascade)) → g.to_cascades (drop all) ≡ (to_cascades all).0
+pub cascades_drop : (all : List (Open Cascade)) → g.to_cascades (drop all) ≡ (to_cascades all).0
 cascades_drop [] = refl
 cascades_drop (x ∷ more) = ap (t.cascade x.0.0 x.0.1.0 x.0.1.1) (cascades_drop more)
 
-cascades_keep : (all : List (Place × (Selectors × Value))) → to_cascades (keep all) ≡ (g.to_cascades all, None)
+pub cascades_keep : (all : List (Place × (Selectors × Value))) → to_cascades (keep all) ≡ (g.to_cascades all, None)
 cascades_keep [] = refl
 cascades_keep (x ∷ []) = refl
 cascades_keep (x ∷ y ∷ more) = ap (λ (z : Open Cascades). (t.cascade x.0 x.1.0 x.1.1 z.0, z.1)) (cascades_keep (y ∷ more))
 
-empty_drop : (all : List (Open Cascade)) → is_empty (drop all) ≡ is_empty all
+pub empty_drop : (all : List (Open Cascade)) → is_empty (drop all) ≡ is_empty all
 empty_drop [] = refl
 empty_drop (x ∷ more) = refl
 
-empty_keep : (all : List (Place × (Selectors × Value))) → is_empty (keep all) ≡ is_empty all
+pub empty_keep : (all : List (Place × (Selectors × Value))) → is_empty (keep all) ≡ is_empty all
 empty_keep [] = refl
 empty_keep (x ∷ more) = refl
 
-abbrev may_follow : Open Cascade → Bool
+abbrev pub may_follow : Open Cascade → Bool
 may_follow x = no_half x && leaves_cascade x.0
 
-abbrev item_spell : Open Cascade → List Token
+abbrev pub item_spell : Open Cascade → List Token
 item_spell = open_spelling section_tokens
 
-abbrev item_next : Open Cascade → List ℕ
+abbrev pub item_next : Open Cascade → List ℕ
 item_next = after_open after_cascade half_cascade
 
 regroup : (x : Place × (Selectors × Value)) (ts h : List Token) → (sign_at x.0 s.DotDot ∷ (selectors_tokens x.1.0 ++ (value_tokens x.1.1 ++ ts))) ++ h ≡ section_tokens x ++ (ts ++ h)
@@ -178,12 +178,12 @@ module _ (inner : ExprReaders) {C : Place × (Selectors × Value) → Type 0} {c
   list_on ((x, Some g) ∷ []) some fits = within_union (last_half_on x) (within_none (half_cascades (one_cascade x)))
   list_on ((x, h) ∷ y ∷ more) some fits = within_then (list_on (y ∷ more) refl fits.2) (grow_on x.0 x.1.0 x.1.1 y.0.0 y.0.1.0 y.0.1.1 (to_cascades more).0 (if is_empty more then y.1 else (to_cascades more).1))
 
-  go_drop : (all : List (Open Cascade)) → AllByRecursion (GoesOn L.Fits may_follow) all → AllByRecursion (GoesOn C leaves_cascade) (drop all) × (flat_map item_spell all ≡ flat_map section_tokens (drop all))
+  pub go_drop : (all : List (Open Cascade)) → AllByRecursion (GoesOn L.Fits may_follow) all → AllByRecursion (GoesOn C leaves_cascade) (drop all) × (flat_map item_spell all ≡ flat_map section_tokens (drop all))
   go_drop [] go = (tt, refl)
   go_drop ((x, None) ∷ more) go = let k = go_drop more go.1 in (((L.none_out x go.0.0, go.0.1), k.0), ap (λ (m : List Token). m ++ flat_map item_spell more) (append-nil (section_tokens x)) ∙ ap (λ (m : List Token). section_tokens x ++ m) k.1)
   go_drop ((x, Some g) ∷ more) go = let bad : false ≡ true = go.0.1 in absurd cc
 
-  go_keep : (all : List (Place × (Selectors × Value))) → AllByRecursion (GoesOn C leaves_cascade) all → AllByRecursion (GoesOn L.Fits may_follow) (keep all) × (flat_map section_tokens all ≡ flat_map item_spell (keep all))
+  pub go_keep : (all : List (Place × (Selectors × Value))) → AllByRecursion (GoesOn C leaves_cascade) all → AllByRecursion (GoesOn L.Fits may_follow) (keep all) × (flat_map section_tokens all ≡ flat_map item_spell (keep all))
   go_keep [] go = (tt, refl)
   go_keep (x ∷ more) go = let k = go_keep more go.1 in (((L.none_in x go.0.0, go.0.1), k.0), ap (λ (m : List Token). section_tokens x ++ m) k.1 ∙ ap (λ (m : List Token). m ++ flat_map item_spell (keep more)) (sym (append-nil (section_tokens x))))
 

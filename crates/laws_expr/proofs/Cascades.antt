@@ -1,5 +1,5 @@
 -- The law of the reader of one part of a cascade (ECMA-408, 16.17.2 Cascaded Invocations).
-use Rattle.std.proofs.Common.{◌≡◌, ℕ, max, Bool, true, false, List, [], ◌∷◌, ◌++◌, Option, None, Some, Ok, Err, ◌⊎◌, inl, inr, refl, ap, sym, ◌∙◌, subst, append_assoc}
+use Rattle.std.proofs.Common.{◌≡◌, ℕ, max, Bool, true, false, List, [], ◌∷◌, ◌++◌, Option, None, Some, Ok, Err, inl, inr, refl, ap, sym, ◌∙◌, subst, append_assoc}
 use Rattle.std.proofs.lemmas.List.{append-nil}
 use Rattle.dart_base.specs.declared.place.Place.{Place}
 use Rattle.dart_token.specs.declared.token.Token.{Token}
@@ -10,7 +10,7 @@ use Rattle.dart_tree.specs.Types.{TypeNode}
 use Rattle.dart_tree.specs.Tree as t
 use Rattle.dart_tree.specs.Tree.{Expr, Selectors, Value}
 use Rattle.dart_tree.specs.Tokens.{expr_tokens, value_tokens, selectors_tokens}
-use Rattle.grammar_laws.specs.Codes.{has, Apart, Within, given, after_followed_by}
+use Rattle.grammar_laws.specs.Codes.{Apart, Within, given, after_followed_by}
 use Rattle.grammar_laws.specs.Readers.{Outcome, Reader, and_then, always, never, continued_by}
 use Rattle.grammar_laws.specs.Laws.{Laws}
 use Rattle.grammar_laws.specs.Fronts.{Front, Joint, BothFit, Made, both_spelling, option_spelling}
@@ -33,7 +33,7 @@ use Rattle.syntax_readers.specs.Primaries.{ExprReaders, operand_first, expr_firs
 use Rattle.syntax_readers.specs.Expressions.{Assigned, Cascade, a_cascade, assign_codes, assignment, cascade_over}
 use Rattle.laws_expr.specs.Nexts.{Taking, nexts, taken, expr_alone, cascades_alone, after_without, after_cascade}
 use Rattle.laws_expr.proofs.Known.{ClosedRead}
-use Rattle.laws_expr.proofs.Open.{OpenLaws, open_spelling, half_tokens, after_open, tree, no_some, shut_laws}
+use Rattle.laws_expr.proofs.Open.{OpenLaws, Settled, stops_before, open_spelling, half_tokens, after_open, tree, no_some, shut_laws}
 use Rattle.laws_expr.proofs.Edges.{within_at, taken_moves}
 use Rattle.laws_expr.proofs.Chain.{half_of, half_moves}
 use Rattle.laws_expr.proofs.Once.{half_without}
@@ -101,8 +101,8 @@ module _ {inner : ExprReaders} {nodes : g.ExprNodes} (N : ClosedRead inner nodes
   shut_section : OpenLaws (shut (section_over inner)) selectors_tokens Section section_front (names ++ these s.LeftBracket) after_section no_codes
   shut_section = shut_laws (section_laws N) no_codes
 
-  no_greater : (x : Selectors) → Section x → selectors_assign x ≡ true → ((g : Place) → shut_section.Fits (x, Some g)) ⊎ (has (after_section x) (sign_code s.Greater) ≡ false)
-  no_greater x fits on = inr refl
+  no_greater : (x : Selectors) → Section x → selectors_assign x ≡ true → Settled shut_section x
+  no_greater x fits on = stops_before shut_section x fits refl
 
   abbrev section_half : OpenLaws (halved selectors_assign (shut (section_over inner))) selectors_tokens Section (Joint selectors_tokens Section selectors_assign section_front (l.sign s.Greater).front) (names ++ these s.LeftBracket) (λ x. selector_first ++ given (selectors_assign x) (these s.Greater)) no_codes
   section_half = halved_laws shut_section selectors_assign no_greater

@@ -1,5 +1,5 @@
 -- The law of a row of operators that stand behind one another (ECMA-408, 16.22 to 16.28), whatever its signs are.
-use Rattle.std.proofs.Common.{◌≡◌, ℕ, suc, max, ◌≤◌, ◌<◌, Bool, true, false, not, ◌&&◌, ◌||◌, List, [], ◌∷◌, ◌++◌, Option, None, Some, inl, inr, refl, ap, sym, ◌∙◌, subst, append_assoc, flat_map, arith}
+use Rattle.std.proofs.Common.{◌≡◌, ℕ, suc, max, ◌≤◌, ◌<◌, Bool, true, false, if◌then◌else◌, not, ◌&&◌, ◌||◌, List, [], ◌∷◌, ◌++◌, Option, None, Some, Ok, inl, inr, refl, ap, sym, ◌∙◌, subst, append_assoc, flat_map, arith}
 use Rattle.std.specs.Prelude.{nat_lt}
 use Rattle.std.proofs.Math.Nat.{le-max_right, max-le}
 use Rattle.std.proofs.lemmas.Bool.{ltb-true, lt-ltb}
@@ -10,23 +10,24 @@ use Rattle.dart_token.specs.declared.token.Token.{Token}
 use Rattle.dart_token.specs.declared.sign.Sign.{Sign}
 use Rattle.dart_token.specs.declared.sign.Sign.TheVariants as s
 use Rattle.dart_tree.specs.declared.operator.Operator.{Operator}
-use Rattle.dart_tree.specs.LeafTokens.{operator_tokens}
+use Rattle.dart_tree.specs.LeafTokens.{sign_at, operator_tokens}
 use Rattle.dart_tree.specs.Depth.{operand_height}
 use Rattle.dart_tree.specs.Types.{TypeNode}
 use Rattle.dart_tree.specs.Tree as t
 use Rattle.dart_tree.specs.Tree.{Operand, Tails}
 use Rattle.dart_tree.specs.Tokens.{operand_tokens, tails_tokens}
 use Rattle.grammar_laws.specs.Codes.{Apart, Within, nowhere, given, has, is_empty, disjoint, within, after_list, after_followed}
-use Rattle.grammar_laws.specs.Readers.{Reader, always, some}
+use Rattle.grammar_laws.specs.Readers.{Outcome, Reader, and_then, always, some, starts, when}
 use Rattle.grammar_laws.specs.Halves.{no_half}
 use Rattle.grammar_laws.specs.Fronts.{Front, Joint, Several, Either, EitherFit, BothFit, GoesOn, FollowedFit, SomeFit, EachFit, Made, both_spelling, joined_spelling, option_spelling}
 use Rattle.grammar_laws.specs.Laws.{Laws}
-use Rattle.grammar_laws.proofs.Codes.{apart, apart_none, apart_smaller, apart_union, and_both, and_true, or_left, or_right, clash, within_none, within_then, within_union, within_given, within_self, within_left, within_right}
+use Rattle.grammar_laws.proofs.Codes.{apart, apart_none, apart_smaller, apart_union, and_both, and_true, and_false, or_left, or_right, not_true, has_cases, clash, within_none, within_then, within_union, within_given, within_self, within_left, within_right}
 use Rattle.grammar_laws.proofs.Depth.{below_is, is_below_by}
 use Rattle.grammar_laws.proofs.Restated.{made_laws, refront}
 use Rattle.grammar_laws.proofs.Combined.{both_laws}
 use Rattle.grammar_laws.proofs.Followed.{followed_laws}
 use Rattle.grammar_laws.proofs.Repeated.{some_laws}
+use Rattle.grammar_laws.proofs.Cuts.{gave}
 use Rattle.dart_syntax.specs.Edges.{repeats, binds_between, leaves, opens_nothing, compares, operand_takes, tails_take}
 use Rattle.dart_syntax.specs.Edges as edge
 use Rattle.dart_syntax.specs.Expressions as g
@@ -38,7 +39,8 @@ use Rattle.syntax_readers.specs.Primaries.{operand_first}
 use Rattle.syntax_readers.specs.Levels.{Item, has_room, item_leaves, to_tails, joined, whole, chain}
 use Rattle.laws_expr.specs.Nexts.{Taking, nexts, taken, operand_alone, tails_alone, after_operand}
 use Rattle.laws_expr.proofs.Behind.{alone, operand_alone_within}
-use Rattle.laws_expr.proofs.Open.{OpenLaws, open_spelling, half_tokens, after_open, bare, tree, no_some}
+use Rattle.laws_expr.proofs.Open.{OpenLaws, Settled, open_spelling, half_tokens, after_open, bare, tree, no_some}
+use Rattle.laws_expr.proofs.Refined.{reads_half, half_read, sharp, sharp_within, sharp_apart, refined_laws}
 use Rattle.laws_expr.proofs.Edges.{at, codes_at, others_apart, apart_but, within_at, taken_moves, operand_moves}
 
 -- what may go on behind the half of an operator: its other half, an operand that is compared, or the rest of `> >=`
@@ -83,14 +85,14 @@ left_apart n from row codes x lt others here own left =
 
 -- ---- the row
 
-abbrev plain_spell : Operator × Operand → List Token
+abbrev pub plain_spell : Operator × Operand → List Token
 plain_spell = both_spelling operator_tokens operand_tokens
 
 abbrev item_spell : Item → List Token
 item_spell = both_spelling operator_tokens (open_spelling operand_tokens)
 
 -- the operators and operands without the half behind the last
-abbrev drop : List Item → List (Operator × Operand)
+abbrev pub drop : List Item → List (Operator × Operand)
 drop [] = []
 drop (x ∷ more) = (x.0, x.1.0) ∷ drop more
 
@@ -98,7 +100,7 @@ abbrev keep : List (Operator × Operand) → List Item
 keep [] = []
 keep (x ∷ more) = (x.0, (x.1, None)) ∷ keep more
 
-tails_drop : (all : List Item) → g.to_tails (drop all) ≡ (to_tails all).0
+pub tails_drop : (all : List Item) → g.to_tails (drop all) ≡ (to_tails all).0
 tails_drop [] = refl
 tails_drop (x ∷ more) = ap (t.tail x.0 x.1.0) (tails_drop more)
 
@@ -107,7 +109,7 @@ tails_keep [] = refl
 tails_keep (x ∷ []) = refl
 tails_keep (x ∷ y ∷ more) = ap (λ (z : Open Tails). (t.tail x.0 x.1 z.0, z.1)) (tails_keep (y ∷ more))
 
-empty_drop : (all : List Item) → is_empty (drop all) ≡ is_empty all
+pub empty_drop : (all : List Item) → is_empty (drop all) ≡ is_empty all
 empty_drop [] = refl
 empty_drop (x ∷ more) = refl
 
@@ -334,3 +336,95 @@ module _ (loose : ℕ) (n : ℕ) (signs : List Sign) (row : ℕ)
     some_out = some_out;
     laws = refront (made_laws (followed_laws H.laws items_laws may here_apart) joined (open_spelling operand_tokens) (after_open (after_operand loose) (half_operand loose)) parts_said parts_on) out into;
   }
+
+  -- ---- a `>` behind the row is given as a half, or stopped before, as behind the last operand
+
+  no_greater : has codes (sign_code s.Greater) ≡ false
+  no_greater = not_true (has codes (sign_code s.Greater)) (λ h. (apart {xs = alone} {ys = codes} apart_alone).never_both (sign_code s.Greater) refl h)
+
+  abbrev stopped : Operand → Bool → List Token → Outcome Token (Open Operand)
+  stopped x c mid = and_then (and_then (when c items_reader mid) (λ o z. Ok (((x, None), o), z))) (λ y z. Ok (joined y, z))
+
+  pub operand_settled : (x : Operand) → F x → Settled H x → Settled chain_laws x
+  unfolding chain chain_laws class_of
+  operand_settled x fits (inl known) = inl (λ g. (((x, Some g), None), (known g, tt), refl))
+  operand_settled x fits (inr stays) = inr (λ g ts.
+      ap (λ (r : Outcome Token (Open Operand)). and_then (and_then r (λ a mid. and_then (when (may a && starts class_of codes mid) items_reader mid) (λ o z. Ok ((a, o), z)))) (λ y z. Ok (joined y, z))) (stays g ts)
+      ∙ ap (λ (c : Bool). stopped x c (sign_at g s.Greater ∷ ts)) (and_false (may (x, None)) (has codes (sign_code s.Greater)) no_greater))
+
+  -- with this half behind the last
+  abbrev keep_half : Option Place → List (Operator × Operand) → List Item
+  keep_half h [] = []
+  keep_half h (x ∷ more) = (x.0, (x.1, if is_empty more then h else None)) ∷ keep_half h more
+
+  abbrev pub last_of : Operand → List (Operator × Operand) → Operand
+  last_of x [] = x
+  last_of x (y ∷ more) = last_of y.1 more
+
+  tails_half : (h : Option Place) (all : List (Operator × Operand)) → is_empty all ≡ false → to_tails (keep_half h all) ≡ (g.to_tails all, h)
+  tails_half h [] some = absurd cc
+  tails_half h (x ∷ []) some = refl
+  tails_half h (x ∷ y ∷ more) some = ap (λ (z : Open Tails). (t.tail x.0 x.1 z.0, z.1)) (tails_half h (y ∷ more) refl)
+
+  each_half : (h : Option Place) (x : Operand) (all : List (Operator × Operand)) → EachFit PlainFits leaves_item all → L.Fits (last_of x all, h) → EachFit ItemFits may_item (keep_half h all)
+  each_half h x [] fits last = tt
+  each_half h x (y ∷ []) fits last = ((fits.0.0, last), or_right (may_item (y.0, (y.1, h))) true refl, tt)
+  each_half h x (y ∷ z ∷ more) fits last = ((fits.0.0, L.none_in y.1 fits.0.1), fits.1, each_half h y.1 (z ∷ more) fits.2 last)
+
+  some_half : (h : Option Place) (all : List (Operator × Operand)) → is_empty all ≡ false → is_empty (keep_half h all) ≡ false
+  some_half h [] e = e
+  some_half h (x ∷ more) e = refl
+
+  module _ (asks : Operand → Bool) (settled : (x : Operand) → U x → asks x ≡ true → Settled L x) where
+    abbrev next_low : Open Operand → List ℕ
+    next_low = after_open (sharp L asks settled) (half_operand (suc loose))
+
+    sharp_item : (x : Item) → ItemFits x → may_item x ≡ true → Apart (next_low x.1) codes
+    sharp_item (o, (x, None)) fits on = apart_smaller (sharp_within L asks settled x) (left x on)
+    sharp_item (o, (x, Some greater)) fits on = absurd cc
+
+    sharp_items : Laws class_of items_reader (flat_map item_spell) (SomeFit ItemFits may_item) (Several item_spell ItemFits may_item ItemFront) codes (after_list codes may_item (λ y. next_low y.1)) false
+    sharp_items = some_laws (both_laws O (refined_laws L asks settled) (λ o fits. apart_none ufirst)) may_item sharp_item
+
+    not_either : (xs ys : List ℕ) (m : ℕ) → has xs m ≡ false → has ys m ≡ false → has (xs ++ ys) m ≡ false
+    not_either xs ys m a b = not_true (has (xs ++ ys) m) (λ h. elim (has_cases xs ys m h) [ inl k ↦ clash (has xs m) k a | inr k ↦ clash (has ys m) k b ])
+
+    given_none : (b : Bool) → has (given b codes) (sign_code s.Greater) ≡ false
+    given_none true = no_greater
+    given_none false = refl
+
+    stop : (x : Operand) (all : List (Operator × Operand)) → is_empty all ≡ false → asks (last_of x all) ≡ true → reads_half L (last_of x all) ≡ false → has (after_list codes may_item (λ (y : Item). next_low y.1) (keep all)) (sign_code s.Greater) ≡ false
+    stop x [] some on none = absurd cc
+    stop x (y ∷ []) some on none =
+        not_either (sharp L asks settled y.1) (given (may_item (y.0, (y.1, None))) codes) (sign_code s.Greater)
+        (not_true (has (sharp L asks settled y.1) (sign_code s.Greater)) (λ h. (sharp_apart L asks settled y.1 on none).never_both (sign_code s.Greater) h refl)) (given_none (may_item (y.0, (y.1, None))))
+    stop x (y ∷ z ∷ more) some on none = stop y.1 (z ∷ more) refl on none
+
+    last_fits : (x : Operand) (all : List (Operator × Operand)) → is_empty all ≡ false → EachFit PlainFits leaves_item all → U (last_of x all)
+    last_fits x [] some fits = absurd cc
+    last_fits x (y ∷ []) some fits = fits.0.1
+    last_fits x (y ∷ z ∷ more) some fits = last_fits y.1 (z ∷ more) refl fits.2
+
+    node_parts : (x : Operand) (h : Option Place) (all : List (Operator × Operand)) → D x → leaves loose x ≡ true → SomeFit PlainFits leaves_item all → L.Fits (last_of x all, h) → PartsFit ((x, None), Some (keep_half h all))
+    node_parts x h all d on fits last = (H.none_in x (up x d).0, (and_true (has_room n (x, None)) (leaves loose x) (is_below_by operand_height n x (up x d).1) on, (some_half h all fits.0, each_half h x all fits.1 last)))
+
+    plain_parts : (x : Operand) (all : List (Operator × Operand)) → D x → leaves loose x ≡ true → SomeFit PlainFits leaves_item all → PartsFit ((x, None), Some (keep all))
+    plain_parts x all d on fits = (H.none_in x (up x d).0, (and_true (has_room n (x, None)) (leaves loose x) (is_below_by operand_height n x (up x d).1) on, (empty_keep all ∙ fits.0, each_keep all fits.1)))
+
+    stays_read : (x : Operand) (all : List (Operator × Operand)) → D x → leaves loose x ≡ true → SomeFit PlainFits leaves_item all → asks (last_of x all) ≡ true → reads_half L (last_of x all) ≡ false → (place : Place) (ts : List Token) →
+        chain loose n signs here lower (open_spelling operand_tokens (t.binary x (g.to_tails all), None) ++ sign_at place s.Greater ∷ ts) ≡ Ok ((t.binary x (g.to_tails all), None), sign_at place s.Greater ∷ ts)
+    unfolding chain class_of
+    stays_read x all d on fits asked none place ts =
+        let parts : Open Operand × Option (List Item) = ((x, None), Some (keep all)) in
+        let known : PartsFit ((x, None), Some (keep all)) = plain_parts x all d on fits in
+        let made : joined ((x, None), Some (keep all)) ≡ (t.binary x (g.to_tails all), None) = ap (with_half (t.binary x)) (tails_keep all) in
+        ap (λ (m : List Token). chain loose n signs here lower (m ++ sign_at place s.Greater ∷ ts)) (ap (open_spelling operand_tokens) (sym made) ∙ parts_said ((x, None), Some (keep all)) known)
+        ∙ ap (λ (r : Outcome Token (Open Operand × Option (List Item))). and_then r (λ y z. Ok (joined y, z))) ((followed_laws H.laws sharp_items may here_apart).complete ((x, None), Some (keep all)) (sign_at place s.Greater ∷ ts) known (stop x all fits.0 asked none))
+        ∙ ap (λ (y : Open Operand). gave y (sign_at place s.Greater ∷ ts)) made
+
+    pub node_settled : (x : Operand) (all : List (Operator × Operand)) → D x → leaves loose x ≡ true → SomeFit PlainFits leaves_item all → asks (last_of x all) ≡ true → Settled chain_laws (t.binary x (g.to_tails all))
+    unfolding chain_laws
+    node_settled x all d on fits asked = by_half (reads_half L (last_of x all)) refl where
+      by_half : (b : Bool) → reads_half L (last_of x all) ≡ b → Settled chain_laws (t.binary x (g.to_tails all))
+      by_half true e = inl (λ place. (((x, None), Some (keep_half (Some place) all)), node_parts x (Some place) all d on fits (half_read L (last_of x all) (settled (last_of x all) (last_fits x all fits.0 fits.1) asked) e place), ap (with_half (t.binary x)) (tails_half (Some place) all fits.0)))
+      by_half false e = inr (λ place ts. stays_read x all d on fits asked e place ts)

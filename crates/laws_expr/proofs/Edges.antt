@@ -38,7 +38,7 @@ given_apart : (b : Bool) {xs ys : List ℕ} → Apart xs ys → Apart (given b x
 given_apart true off = off
 given_apart false {ys = ys} off = apart_none ys
 
-given_off : (b : Bool) (xs ys : List ℕ) → b ≡ false → Apart (given b xs) ys
+pub given_off : (b : Bool) (xs ys : List ℕ) → b ≡ false → Apart (given b xs) ys
 given_off true xs ys e = absurd cc
 given_off false xs ys e = apart_none ys
 

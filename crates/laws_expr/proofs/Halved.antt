@@ -10,17 +10,17 @@ use Rattle.grammar_laws.specs.Readers.{Outcome, Reader, and_then, starts, when}
 use Rattle.grammar_laws.specs.Halves.{no_half}
 use Rattle.grammar_laws.specs.Fronts.{Front, Joint}
 use Rattle.grammar_laws.specs.Laws.{Laws, Stops, Stuck}
-use Rattle.grammar_laws.proofs.Codes.{clash, only_code, has_left, has_right, has_given, and_both, and_true}
+use Rattle.grammar_laws.proofs.Codes.{clash, has_left, has_right, has_given, and_both, and_true}
 use Rattle.grammar_laws.proofs.Cuts.{gave, failed, same_value, same_rest, same, longer, shorter, cut, both_empty}
 use Rattle.grammar_laws.proofs.Joints.{one_reading, stops_within}
 use Rattle.dart_syntax.specs.Leaves as l
-use Rattle.token_codes.specs.Codes.{class_of, these, sign_code}
+use Rattle.token_codes.specs.Codes.{class_of, these}
 use Rattle.token_codes.specs.Leaves.{sign}
 use Rattle.token_codes.proofs.Leaves.{sign_reads}
 use Rattle.token_codes.proofs.Only.{only_sign}
 use Rattle.grammar_laws.proofs.Tried.{stops_nowhere}
 use Rattle.syntax_readers.specs.Combinators.{Open, take_half, halved}
-use Rattle.laws_expr.proofs.Open.{OpenLaws, open_spelling, half_tokens, after_open, behind}
+use Rattle.laws_expr.proofs.Open.{OpenLaws, Settled, open_spelling, half_tokens, after_open, behind}
 
 abbrev is_greater : Token → Bool
 is_greater t = has (these s.Greater) (class_of t)
@@ -41,7 +41,7 @@ last_same (v ∷ a) (w ∷ b) t u e =
     (cc, k.1)
 
 module _ {A : Type 0} {read : Reader Token (Open A)} {tokens : A → List Token} {F : A → Type 0} {front : Front Token} {first : List ℕ} {next half : A → List ℕ} (P : OpenLaws read tokens F front first next half)
-    (may : A → Bool) (decide : (x : A) → F x → may x ≡ true → ((g : Place) → P.Fits (x, Some g)) ⊎ (has (next x) (sign_code s.Greater) ≡ false)) where
+    (may : A → Bool) (decide : (x : A) → F x → may x ≡ true → Settled P x) where
   abbrev pub Half : Open A → Type 0
   Half (x, None) = P.Fits (x, None)
   Half (x, Some g) = P.Fits (x, Some g) ⊎ (F x × (may x ≡ true))
@@ -85,16 +85,19 @@ module _ {A : Type 0} {read : Reader Token (Open A)} {tokens : A → List Token}
   one_greater more (inl e) = inl e
   one_greater more (inr w) = inr w
 
-  greater_next : (y : A) (k : Place) (m : List Token) → F y → front (tokens y ++ (half_tokens k ++ m)) → has (next y) (sign_code s.Greater) ≡ true
-  unfolding class_of
-  greater_next y k m fy h = nexts_none y (sign_at k s.Greater) m fy h
+  -- where the reader stops before a `>` no front goes on with it
+  abbrev Stays : A → Type 0
+  Stays x = (g : Place) (ts : List Token) → read (open_spelling tokens (x, None) ++ sign_at g s.Greater ∷ ts) ≡ Ok (plain x, sign_at g s.Greater ∷ ts)
+
+  no_more : (y : A) (k : Place) (m : List Token) → Stays y → front (tokens y ++ (half_tokens k ++ m)) → ⊥
+  no_more y k m stays h = longest_none (open_spelling tokens (y, None) ++ sign_at k s.Greater ∷ []) y (sign_at k s.Greater) [] (stays k []) (P.laws.closed (tokens y ++ half_tokens k) m (subst front (sym (append_assoc (tokens y) (half_tokens k) m)) h))
 
   -- a half goes on in the front only where it is read
   reached : (x : A) (g : Place) (more : List Token) → Half (x, Some g) → front (tokens x ++ (half_tokens g ++ more)) → P.Fits (x, Some g)
   reached x g more (inl fits) f = fits
   reached x g more (inr (fits, on)) f = elim (decide x fits on) [
     | inl known ↦ known g
-    | inr off ↦ absurd (clash (has (next x) (sign_code s.Greater)) (greater_next x g more fits f) off)
+    | inr stays ↦ absurd (no_more x g more stays f)
   ]
 
   -- ---- what the reader gives
@@ -211,16 +214,13 @@ module _ {A : Type 0} {read : Reader Token (Open A)} {tokens : A → List Token}
   keeps x rest true e off = ap (λ (b : Bool). b && starts class_of (these s.Greater) rest) e ∙ off e
   keeps x rest false e off = ap (λ (b : Bool). b && starts class_of (these s.Greater) rest) e
 
-  stays : (y : A) (t : Token) (more : List Token) → F y → is_greater t ≡ true → has (next y) (sign_code s.Greater) ≡ false → read (open_spelling tokens (y, None) ++ t ∷ more) ≡ gave (plain y) (t ∷ more)
-  stays y t more fits is off = P.laws.complete (y, None) (t ∷ more) (P.none_in y fits) (ap (has (next y)) (only_code (class_of t) (sign_code s.Greater) is) ∙ off)
-
   complete_read : (x : A) (g : Place) (rest : List Token) → P.Fits (x, Some g) → Stops class_of (half x) rest → halved may read (open_spelling tokens (x, Some g) ++ rest) ≡ gave (with x g) rest
   complete_read x g rest fits stop = ran (open_spelling tokens (x, Some g) ++ rest) (x, Some g) rest (P.laws.complete (x, Some g) rest fits stop)
 
-  complete_taken : (x : A) (g : Place) (rest : List Token) → F x → may x ≡ true → has (next x) (sign_code s.Greater) ≡ false → halved may read (open_spelling tokens (x, Some g) ++ rest) ≡ gave (with x g) rest
-  complete_taken x g rest fits on off =
+  complete_taken : (x : A) (g : Place) (rest : List Token) → may x ≡ true → Stays x → halved may read (open_spelling tokens (x, Some g) ++ rest) ≡ gave (with x g) rest
+  complete_taken x g rest on stays =
       ap (halved may read) (sym (half_said x g rest))
-      ∙ ran (open_spelling tokens (x, None) ++ sign_at g s.Greater ∷ rest) (x, None) (sign_at g s.Greater ∷ rest) (stays x (sign_at g s.Greater) rest fits (greater_code g) off)
+      ∙ ran (open_spelling tokens (x, None) ++ sign_at g s.Greater ∷ rest) (x, None) (sign_at g s.Greater ∷ rest) (stays g rest)
       ∙ ap (λ (b : Bool). step b (x, None) (sign_at g s.Greater ∷ rest)) (and_true (may x) (is_greater (sign_at g s.Greater)) on (greater_code g)) ∙ taken_step x g rest
 
   complete : (y : Open A) (rest : List Token) → Half y → Stops class_of (after_open next_half half y) rest → halved may read (open_spelling tokens y ++ rest) ≡ Ok (y, rest)
@@ -231,7 +231,7 @@ module _ {A : Type 0} {read : Reader Token (Open A)} {tokens : A → List Token}
   complete (x, Some g) rest (inl fits) stop = complete_read x g rest fits stop
   complete (x, Some g) rest (inr (fits, on)) stop = elim (decide x fits on) [
     | inl known ↦ complete_read x g rest (known g) stop
-    | inr off ↦ complete_taken x g rest fits on off
+    | inr stays ↦ complete_taken x g rest on stays
   ]
 
   stuck : (ts rest : List Token) → halved may read ts ≡ Err rest → Stuck half_front ts rest
@@ -245,7 +245,10 @@ module _ {A : Type 0} {read : Reader Token (Open A)} {tokens : A → List Token}
           | inl g ↦ k.3 t more is g
           | inr w ↦ elim (decide w.0 w.1 w.2) as (λ _. ⊥) [
             | inl known ↦ k.3 t more is (subst front (ap (λ (m : List Token). m ++ half_tokens t.place) (sym w.3) ∙ ap (λ (u : Token). k.0 ++ u ∷ []) (only_sign s.Greater t w.4)) (P.laws.whole (w.0, Some t.place) (known t.place)))
-            | inr off ↦ never_read ts rest w.0 t more e (k.1 ∙ ap (λ (m : List Token). k.0 ++ m) is ∙ ap (λ (m : List Token). m ++ t ∷ more) (w.3 ∙ sym (append-nil (tokens w.0)))) (stays w.0 t more w.1 w.4 off)
+            | inr stays ↦
+                let token : sign_at t.place s.Greater ≡ t = only_sign s.Greater t w.4 in
+                never_read ts rest w.0 t more e (k.1 ∙ ap (λ (m : List Token). k.0 ++ m) is ∙ ap (λ (m : List Token). m ++ t ∷ more) (w.3 ∙ sym (append-nil (tokens w.0))))
+                (subst (λ (u : Token). read (open_spelling tokens (w.0, None) ++ u ∷ more) ≡ gave (plain w.0) (u ∷ more)) token (stays t.place more))
           ]
         ],
       ) where
@@ -335,3 +338,12 @@ module _ {A : Type 0} {read : Reader Token (Open A)} {tokens : A → List Token}
   -- the first `>` is read where the test allows it
   abbrev pub halved_laws : OpenLaws (halved may read) tokens F half_front first next_half half
   halved_laws = record { Fits = Half; none_in = P.none_in; none_out = half_none_out; some_out = half_some_out; laws = half_laws }
+
+  pub halved_settled : (x : A) → F x → (may x ≡ false → Settled P x) → Settled halved_laws x
+  halved_settled x fits settled = by_may (may x) refl where
+    by_may : (b : Bool) → may x ≡ b → Settled halved_laws x
+    by_may true on = inl (λ g. inr (fits, on))
+    by_may false off = elim (settled off) as (λ _. Settled halved_laws x) [
+      | inl known ↦ inl (λ g. inl (known g))
+      | inr stays ↦ inr (λ g ts. ran (open_spelling tokens (x, None) ++ sign_at g s.Greater ∷ ts) (x, None) (sign_at g s.Greater ∷ ts) (stays g ts) ∙ ap (λ (b : Bool). step (b && is_greater (sign_at g s.Greater)) (x, None) (sign_at g s.Greater ∷ ts)) off ∙ passed (x, None) (sign_at g s.Greater ∷ ts))
+    ]

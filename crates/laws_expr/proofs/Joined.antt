@@ -1,25 +1,29 @@
 -- The law of an operand with one more part behind it or none, where the part may end with a half.
-use Rattle.std.proofs.Common.{◌≡◌, ℕ, ◌<◌, Bool, true, false, ◌&&◌, List, [], ◌++◌, Option, None, Some, inl, inr, refl, ap, sym, ◌∙◌, subst}
+use Rattle.std.proofs.Common.{◌≡◌, ℕ, ◌<◌, Bool, true, false, ◌&&◌, List, [], ◌∷◌, ◌++◌, Option, None, Some, Ok, ◌⊎◌, inl, inr, refl, ap, sym, ◌∙◌, subst, append_assoc}
 use Rattle.std.proofs.lemmas.List.{append-nil}
 use Rattle.dart_base.specs.declared.place.Place.{Place}
 use Rattle.dart_token.specs.declared.token.Token.{Token}
 use Rattle.dart_tree.specs.Depth.{operand_height}
 use Rattle.dart_tree.specs.Tree.{Operand}
 use Rattle.dart_tree.specs.Tokens.{operand_tokens}
-use Rattle.grammar_laws.specs.Codes.{Apart, Within, given, after_followed}
-use Rattle.grammar_laws.specs.Readers.{Reader, mapped, followed}
+use Rattle.dart_token.specs.declared.sign.Sign.TheVariants as s
+use Rattle.dart_tree.specs.LeafTokens.{sign_at}
+use Rattle.grammar_laws.specs.Codes.{has, Apart, Within, given, after_followed}
+use Rattle.grammar_laws.specs.Readers.{Outcome, Reader, and_then, mapped, followed, starts, when}
 use Rattle.grammar_laws.specs.Halves.{no_half}
 use Rattle.grammar_laws.specs.Fronts.{Front, Joint, Either, EitherFit, BothFit, GoesOn, FollowedFit, Made, joined_spelling}
-use Rattle.grammar_laws.specs.Laws.{Laws}
-use Rattle.grammar_laws.proofs.Codes.{and_both, and_true, within_none, within_union, within_given}
+use Rattle.grammar_laws.specs.Laws.{Laws, Stops}
+use Rattle.grammar_laws.proofs.Cuts.{gave}
+use Rattle.grammar_laws.proofs.Joints.{begins}
+use Rattle.grammar_laws.proofs.Codes.{not_true, and_both, and_true, and_false, within_none, within_union, within_given}
 use Rattle.grammar_laws.proofs.Depth.{below_is, is_below_by}
 use Rattle.grammar_laws.proofs.Restated.{made_laws, refront}
 use Rattle.grammar_laws.proofs.Followed.{followed_laws}
 use Rattle.dart_syntax.specs.Edges.{leaves}
-use Rattle.token_codes.specs.Codes.{class_of}
+use Rattle.token_codes.specs.Codes.{class_of, sign_code}
 use Rattle.syntax_readers.specs.Combinators.{Open}
 use Rattle.syntax_readers.specs.Levels.{has_room}
-use Rattle.laws_expr.proofs.Open.{OpenLaws, open_spelling, after_open, bare, tree, no_some}
+use Rattle.laws_expr.proofs.Open.{OpenLaws, Settled, open_spelling, after_open, bare, tree, behind, no_some}
 
 module _ (loose n : ℕ) (codes : List ℕ)
     {here : Reader Token (Open Operand)} {F : Operand → Type 0} {front : Front Token} {first : List ℕ} {next half : Operand → List ℕ} (H : OpenLaws here operand_tokens F front first next half)
@@ -115,3 +119,38 @@ module _ (loose n : ℕ) (codes : List ℕ)
     some_out = some_out;
     laws = refront (made_laws (followed_laws H.laws Q may here_apart) all (open_spelling operand_tokens) after parts_said parts_on) out into;
   }
+
+  -- ---- a `>` behind the whole is given as a half, or stopped before, as behind the part
+  abbrev stopped : Operand → Bool → List Token → Outcome Token (Open Operand)
+  stopped x c mid = and_then (and_then (when c part mid) (λ o z. Ok (((x, None), o), z))) (λ y z. Ok (all y, z))
+
+  pub first_settled : has codes (sign_code s.Greater) ≡ false → (x : Operand) → F x → Settled H x → Settled joined_laws x
+  unfolding joined_laws class_of
+  first_settled none x fits (inl known) = inl (λ g. (((x, Some g), None), (known g, tt), all_none (x, Some g)))
+  first_settled none x fits (inr stays) = inr (λ g ts.
+      ap (λ (r : Outcome Token (Open Operand)). and_then (and_then r (λ a mid. and_then (when (may a && starts class_of codes mid) part mid) (λ o z. Ok ((a, o), z)))) (λ y z. Ok (all y, z))) (stays g ts)
+      ∙ ap (λ (c : Bool). stopped x c (sign_at g s.Greater ∷ ts)) (and_false (may (x, None)) (has codes (sign_code s.Greater)) none) ∙ ap (λ (y : Open Operand). gave y (sign_at g s.Greater ∷ ts)) (all_none (x, None)))
+
+  -- of a part: it may stand with the half, or its reader stops before the `>`
+  abbrev pub PartSettled : Operand → B → Type 0
+  PartSettled x b = ((g : Place) → (c : B) × Fits c × (join x c ≡ ((join x b).0, Some g))) ⊎ ((g : Place) (ts : List Token) → part (spell b ++ sign_at g s.Greater ∷ ts) ≡ Ok (b, sign_at g s.Greater ∷ ts))
+
+  stops_at : (xs ys : List ℕ) (ts : List Token) → Apart xs ys → starts class_of ys ts ≡ true → Stops class_of xs ts
+  stops_at xs ys [] off on = refl
+  stops_at xs ys (t ∷ ts) off on = not_true (has xs (class_of t)) (λ h. off.never_both (class_of t) h on)
+
+  pub part_settled : (x : Operand) (b : B) → D x → leaves loose x ≡ true → Fits b → behind (join x b) ≡ None → PartSettled x b → Settled joined_laws (join x b).0
+  unfolding joined_laws
+  part_settled x b d on fits alone (inl known) =
+      let u = up x d in
+      inl (λ g. (((x, None), Some (known g).0), (H.none_in x u.0, (and_true (has_room n (x, None)) (leaves loose x) (is_below_by operand_height n x u.1) on, (known g).1)), all_some (x, None) (known g).0 ∙ (known g).2))
+  part_settled x b d on fits alone (inr stays) = inr (λ g ts.
+      let u = up x d in
+      let go : may (x, None) ≡ true = and_true (has_room n (x, None)) (leaves loose x) (is_below_by operand_height n x u.1) on in
+      let rest : List Token = sign_at g s.Greater ∷ ts in
+      let begun : starts class_of codes (spell b ++ rest) ≡ true = begins Q b rest fits in
+      let whole : ((join x b).0, None) ≡ join x b = ap (λ (h : Option Place). ((join x b).0, h)) (sym alone) in
+      let tokens : open_spelling operand_tokens ((join x b).0, None) ++ rest ≡ open_spelling operand_tokens (x, None) ++ (spell b ++ rest) = ap (λ (m : List Token). m ++ rest) (ap (open_spelling operand_tokens) whole ∙ said x b fits ∙ ap (λ (m : List Token). m ++ spell b) (sym (append-nil (operand_tokens x)))) ∙ append_assoc (operand_tokens x ++ []) (spell b) rest in
+      ap (mapped all (followed class_of may codes here part)) tokens
+      ∙ rw (H.laws.complete (x, None) (spell b ++ rest) (H.none_in x u.0) (stops_at (next x) codes (spell b ++ rest) (left x u.0 on) begun), go, begun, stays g ts) refl
+      ∙ ap (λ (y : Open Operand). gave y rest) (all_some (x, None) b ∙ sym whole))

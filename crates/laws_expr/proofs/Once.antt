@@ -1,5 +1,5 @@
 -- The law of a row of which one operator may stand behind an operand (ECMA-408, 16.23 Equality).
-use Rattle.std.proofs.Common.{◌≡◌, ℕ, suc, max, ◌<◌, Bool, true, false, not, ◌&&◌, ◌||◌, List, ◌++◌, None, Some, refl, ap, ◌∙◌, append_assoc, arith}
+use Rattle.std.proofs.Common.{◌≡◌, ℕ, suc, max, ◌<◌, Bool, true, false, not, ◌&&◌, ◌||◌, List, ◌∷◌, ◌++◌, None, Some, Ok, ◌⊎◌, inl, inr, refl, ap, ◌∙◌, append_assoc, arith}
 use Rattle.std.proofs.Math.Nat.{le-max_right, max-le}
 use Rattle.std.proofs.lemmas.List.{append-nil}
 use Rattle.dart_base.specs.declared.place.Place.{Place}
@@ -13,29 +13,33 @@ use Rattle.dart_tree.specs.Types.{TypeNode}
 use Rattle.dart_tree.specs.Tree as t
 use Rattle.dart_tree.specs.Tree.{Expr, Operand}
 use Rattle.dart_tree.specs.Tokens.{expr_tokens, operand_tokens}
-use Rattle.grammar_laws.specs.Codes.{Within, nowhere, disjoint, within}
+use Rattle.dart_tree.specs.LeafTokens.{sign_at}
+use Rattle.grammar_laws.specs.Codes.{has, Within, nowhere, disjoint, within}
 use Rattle.grammar_laws.specs.Readers.{Reader, always}
 use Rattle.grammar_laws.specs.Fronts.{Front, Joint, Either, EitherFit, BothFit, GoesOn, GoodFit, Made, both_spelling}
 use Rattle.grammar_laws.specs.Laws.{Laws}
-use Rattle.grammar_laws.proofs.Codes.{apart, apart_none, apart_smaller, or_right, within_then, within_union, within_left, within_right}
+use Rattle.grammar_laws.proofs.Codes.{apart, apart_none, apart_smaller, not_true, or_right, within_then, within_union, within_left, within_right}
+use Rattle.grammar_laws.specs.Halves.{strict}
+use Rattle.grammar_laws.proofs.Joints.{begins}
+use Rattle.grammar_laws.proofs.Tried.{stops_nowhere}
 use Rattle.grammar_laws.proofs.Combined.{both_laws}
 use Rattle.dart_syntax.specs.Phrases.{Anything}
 use Rattle.dart_syntax.specs.Leaves.{sign_tokens}
 use Rattle.dart_syntax.specs.Leaves as l
 use Rattle.dart_syntax.specs.Edges.{repeats, binds_between, opens_nothing, question, operand_takes, tails_take, expr_takes, leaves}
 use Rattle.dart_syntax.specs.Levels.{level}
-use Rattle.token_codes.specs.Codes.{class_of, these, sign_codes}
-use Rattle.token_codes.specs.Leaves.{one_of}
+use Rattle.token_codes.specs.Codes.{class_of, sign_code, these, sign_codes}
+use Rattle.token_codes.specs.Leaves.{sign, one_of}
 use Rattle.token_codes.proofs.Leaves.{sign_reads}
-use Rattle.syntax_readers.specs.Combinators.{Open, with_half}
+use Rattle.syntax_readers.specs.Combinators.{◌~◌, Open, with_half}
 use Rattle.syntax_readers.specs.Primaries.{expr_first}
 use Rattle.syntax_readers.specs.Levels.{Item, is_bare, joined_once, joined_conditional, whole, once, conditional}
 use Rattle.laws_expr.specs.Nexts.{Taking, nexts, taken, operand_alone, expr_alone, after_operand, after_without}
 use Rattle.laws_expr.proofs.Behind.{alone, under_without}
-use Rattle.laws_expr.proofs.Open.{OpenLaws, open_spelling, after_open, open_checked_laws, open_strict_laws}
+use Rattle.laws_expr.proofs.Open.{OpenLaws, Settled, stops_first, checked_settled, open_spelling, after_open, open_checked_laws, open_strict_laws}
 use Rattle.laws_expr.proofs.Edges.{at, codes_at, others_apart, within_at, taken_moves}
 use Rattle.laws_expr.proofs.Chain.{half_of, half_operand, half_moves, looser, looser_half, left_apart}
-use Rattle.laws_expr.proofs.Joined.{joined_laws}
+use Rattle.laws_expr.proofs.Joined.{joined_laws, first_settled, part_settled}
 
 -- behind the last operand of a row what goes on with the operand
 pub last_takes : (loose : ℕ) (o : Operator) (x : Operand) → level o ≡ loose → (next : ℕ) (opens : TypeNode → Bool) → operand_takes next opens (suc loose) x ≡ true → tails_take next opens loose (t.tail o x t.no_tails) ≡ true
@@ -100,6 +104,44 @@ module _ (loose : ℕ) (n : ℕ) (signs : List Sign) (row : ℕ)
       (BothFit Of U) item_node item_join item_drop item_keep (λ x p. refl) (λ x b. refl) (λ b fits. (fits.0, low_out b.1 fits.1)) (λ p fits. (fits.0, L.none_in p.1 fits.1))
       (λ x b fits. item_said x b) (after_operand loose) (half_operand loose) (λ x fits. looser (suc loose) loose x (omega arith)) (λ x fits. looser_half (suc loose) loose x (omega arith)) own_codes
       (λ x b fits. item_on loose x b (leveled b.0 fits.0)) joined_once (λ x. refl) (λ x b. refl)) (λ x. not (is_bare x))
+
+  -- ---- a `>` behind it is given as a half, or stopped before, as behind the last operand
+
+  no_greater : has (sign_codes signs) (sign_code s.Greater) ≡ false
+  no_greater = not_true (has (sign_codes signs) (sign_code s.Greater)) (λ h. (apart {xs = alone} {ys = sign_codes signs} apart_alone).never_both (sign_code s.Greater) refl h)
+
+  pub once_operand_settled : (x : Operand) → F x → is_bare x ≡ false → Settled H x → Settled once_laws x
+  unfolding once whole once_laws
+  once_operand_settled x fits plain settled = checked_settled (joined_laws loose n (sign_codes signs) H (both_laws O L.laws (λ o fits. apart_none ufirst)) down up rise
+      (λ x fits left. left_apart loose (suc loose) row (sign_codes signs) x (omega arith) others here_row apart_alone left)
+      (BothFit Of U) item_node item_join item_drop item_keep (λ x p. refl) (λ x b. refl) (λ b fits. (fits.0, low_out b.1 fits.1)) (λ p fits. (fits.0, L.none_in p.1 fits.1))
+      (λ x b fits. item_said x b) (after_operand loose) (half_operand loose) (λ x fits. looser (suc loose) loose x (omega arith)) (λ x fits. looser_half (suc loose) loose x (omega arith)) own_codes
+      (λ x b fits. item_on loose x b (leveled b.0 fits.0)) joined_once (λ x. refl) (λ x b. refl)) (λ x. not (is_bare x)) x (ap not plain)
+      (first_settled loose n (sign_codes signs) H (both_laws O L.laws (λ o fits. apart_none ufirst)) down up rise
+      (λ x fits left. left_apart loose (suc loose) row (sign_codes signs) x (omega arith) others here_row apart_alone left)
+      (BothFit Of U) item_node item_join item_drop item_keep (λ x p. refl) (λ x b. refl) (λ b fits. (fits.0, low_out b.1 fits.1)) (λ p fits. (fits.0, L.none_in p.1 fits.1))
+      (λ x b fits. item_said x b) (after_operand loose) (half_operand loose) (λ x fits. looser (suc loose) loose x (omega arith)) (λ x fits. looser_half (suc loose) loose x (omega arith)) own_codes
+      (λ x b fits. item_on loose x b (leveled b.0 fits.0)) joined_once (λ x. refl) (λ x b. refl) no_greater x fits settled)
+
+  item_settled : (x : Operand) (o : Operator) (y : Operand) → Of o → U y → Settled L y →
+      ((g : Place) → (c : Item) × BothFit Of L.Fits c × (item_join x c ≡ ((item_join x (o, (y, None))).0, Some g))) ⊎ ((g : Place) (ts : List Token) → (one_of signs ~ whole lower) (item_spell (o, (y, None)) ++ sign_at g s.Greater ∷ ts) ≡ Ok ((o, (y, None)), sign_at g s.Greater ∷ ts))
+  item_settled x o y known fits (inl half) = inl (λ g. ((o, (y, Some g)), (known, half g), refl))
+  item_settled x o y known fits (inr stays) = inr (λ g ts.
+      ap (one_of signs ~ whole lower) (append_assoc (operator_tokens o) (open_spelling operand_tokens (y, None)) (sign_at g s.Greater ∷ ts))
+      ∙ rw (O.complete o (open_spelling operand_tokens (y, None) ++ sign_at g s.Greater ∷ ts) known (stops_nowhere class_of (open_spelling operand_tokens (y, None) ++ sign_at g s.Greater ∷ ts)), stays g ts) refl)
+
+  pub once_node_settled : (x : Operand) (o : Operator) (y : Operand) → D x → leaves loose x ≡ true → Of o → U y → Settled L y → Settled once_laws (t.binary x (t.tail o y t.no_tails))
+  unfolding once whole once_laws
+  once_node_settled x o y d on known fits settled = checked_settled (joined_laws loose n (sign_codes signs) H (both_laws O L.laws (λ o fits. apart_none ufirst)) down up rise
+      (λ x fits left. left_apart loose (suc loose) row (sign_codes signs) x (omega arith) others here_row apart_alone left)
+      (BothFit Of U) item_node item_join item_drop item_keep (λ x p. refl) (λ x b. refl) (λ b fits. (fits.0, low_out b.1 fits.1)) (λ p fits. (fits.0, L.none_in p.1 fits.1))
+      (λ x b fits. item_said x b) (after_operand loose) (half_operand loose) (λ x fits. looser (suc loose) loose x (omega arith)) (λ x fits. looser_half (suc loose) loose x (omega arith)) own_codes
+      (λ x b fits. item_on loose x b (leveled b.0 fits.0)) joined_once (λ x. refl) (λ x b. refl)) (λ x. not (is_bare x)) (t.binary x (t.tail o y t.no_tails)) refl
+      (part_settled loose n (sign_codes signs) H (both_laws O L.laws (λ o fits. apart_none ufirst)) down up rise
+      (λ x fits left. left_apart loose (suc loose) row (sign_codes signs) x (omega arith) others here_row apart_alone left)
+      (BothFit Of U) item_node item_join item_drop item_keep (λ x p. refl) (λ x b. refl) (λ b fits. (fits.0, low_out b.1 fits.1)) (λ p fits. (fits.0, L.none_in p.1 fits.1))
+      (λ x b fits. item_said x b) (after_operand loose) (half_operand loose) (λ x fits. looser (suc loose) loose x (omega arith)) (λ x fits. looser_half (suc loose) loose x (omega arith)) own_codes
+      (λ x b fits. item_on loose x b (leveled b.0 fits.0)) joined_once (λ x. refl) (λ x b. refl) x (o, (y, None)) d on (known, L.none_in y fits) refl (item_settled x o y known fits settled))
 
 -- ---- conditional expressions (16.20 Conditional)
 
@@ -169,3 +211,33 @@ module _ (n : ℕ) {without : Reader Token (Open Expr)} {E : Expr → Type 0} {e
       BranchesFit branch_node branch_join branch_drop branch_keep (λ x p. refl) (λ x b. refl) (λ b fits. (fits.0, (fits.1.0, (fits.1.1.0, expr_out b.1.1.1 fits.1.1.1)))) (λ p fits. (fits.0, (fits.1.0, (fits.1.1.0, W.none_in p.1.1.1 fits.1.1.1))))
       (λ x b fits. branch_said x b) (after_operand question) (half_operand question) (λ x fits. looser (suc question) question x (omega arith)) (λ x fits. looser_half (suc question) question x (omega arith)) own_question
       (λ x b fits. branch_on x b) joined_conditional (λ x. refl) (λ x b. refl)
+
+  pub choice_operand_settled : (x : Operand) → F x → Settled H x → Settled conditional_laws x
+  unfolding conditional conditional_laws
+  choice_operand_settled x fits settled = first_settled question n (these s.Question) H
+      (both_laws (sign_reads s.Question) (both_laws (open_strict_laws W) (both_laws (sign_reads s.Colon) W.laws (λ place fits. apart_none expr_first)) (λ e fits. apart_smaller (under_without e) (apart refl))) (λ place fits. apart_none expr_first)) down up rise
+      (λ x fits left. left_apart question (suc question) 1 (these s.Question) x (omega arith) refl (λ takes. refl) refl left)
+      BranchesFit branch_node branch_join branch_drop branch_keep (λ x p. refl) (λ x b. refl) (λ b fits. (fits.0, (fits.1.0, (fits.1.1.0, expr_out b.1.1.1 fits.1.1.1)))) (λ p fits. (fits.0, (fits.1.0, (fits.1.1.0, W.none_in p.1.1.1 fits.1.1.1))))
+      (λ x b fits. branch_said x b) (after_operand question) (half_operand question) (λ x fits. looser (suc question) question x (omega arith)) (λ x fits. looser_half (suc question) question x (omega arith)) own_question
+      (λ x b fits. branch_on x b) joined_conditional (λ x. refl) (λ x b. refl) refl x fits settled
+
+  branches_settled : (x : Operand) (mark : Place) (first : Expr) (colon : Place) (second : Expr) → E first → E second → Settled W second →
+      ((g : Place) → (c : Place × (Expr × (Place × Open Expr))) × BothFit Anything (BothFit E (BothFit Anything W.Fits)) c × (branch_join x c ≡ ((branch_join x (mark, (first, (colon, (second, None))))).0, Some g)))
+      ⊎ ((g : Place) (ts : List Token) → (sign s.Question ~ strict without ~ sign s.Colon ~ without) (branch_spell (mark, (first, (colon, (second, None)))) ++ sign_at g s.Greater ∷ ts) ≡ Ok ((mark, (first, (colon, (second, None)))), sign_at g s.Greater ∷ ts))
+  branches_settled x mark first colon second fits last (inl half) = inl (λ g. ((mark, (first, (colon, (second, Some g)))), (tt, (fits, (tt, half g))), refl))
+  branches_settled x mark first colon second fits last (inr stays) = inr (λ g ts.
+      let third : List Token = open_spelling expr_tokens (second, None) ++ sign_at g s.Greater ∷ ts in
+      let rest : List Token = sign_tokens s.Colon colon ++ third in
+      let grouped : branch_spell (mark, (first, (colon, (second, None)))) ++ sign_at g s.Greater ∷ ts ≡ sign_tokens s.Question mark ++ (expr_tokens first ++ rest) = simp append_assoc in
+      ap (sign s.Question ~ strict without ~ sign s.Colon ~ without) grouped
+      ∙ rw ((sign_reads s.Question).complete mark (expr_tokens first ++ rest) tt (stops_nowhere class_of (expr_tokens first ++ rest)), (open_strict_laws W).complete first rest fits (stops_first (after_without first) (these s.Colon) rest (apart_smaller (under_without first) (apart refl)) (begins (sign_reads s.Colon) colon third tt)), (sign_reads s.Colon).complete colon third tt (stops_nowhere class_of third), stays g ts) refl)
+
+  pub choice_node_settled : (x : Operand) (mark : Place) (first : Expr) (colon : Place) (second : Expr) → D x → leaves question x ≡ true → E first → E second → Settled W second → Settled conditional_laws (t.conditional x mark first colon second)
+  unfolding conditional conditional_laws
+  choice_node_settled x mark first colon second d on fits last settled = part_settled question n (these s.Question) H
+      (both_laws (sign_reads s.Question) (both_laws (open_strict_laws W) (both_laws (sign_reads s.Colon) W.laws (λ place fits. apart_none expr_first)) (λ e fits. apart_smaller (under_without e) (apart refl))) (λ place fits. apart_none expr_first)) down up rise
+      (λ x fits left. left_apart question (suc question) 1 (these s.Question) x (omega arith) refl (λ takes. refl) refl left)
+      BranchesFit branch_node branch_join branch_drop branch_keep (λ x p. refl) (λ x b. refl) (λ b fits. (fits.0, (fits.1.0, (fits.1.1.0, expr_out b.1.1.1 fits.1.1.1)))) (λ p fits. (fits.0, (fits.1.0, (fits.1.1.0, W.none_in p.1.1.1 fits.1.1.1))))
+      (λ x b fits. branch_said x b) (after_operand question) (half_operand question) (λ x fits. looser (suc question) question x (omega arith)) (λ x fits. looser_half (suc question) question x (omega arith)) own_question
+      (λ x b fits. branch_on x b) joined_conditional (λ x. refl) (λ x b. refl)
+      x (mark, (first, (colon, (second, None)))) d on (tt, (fits, (tt, W.none_in second last))) refl (branches_settled x mark first colon second fits last settled)

@@ -1,22 +1,24 @@
 -- The laws of readers of what may end in an operand: the half of an operator behind it is read with it.
-use Rattle.std.proofs.Common.{◌≡◌, ℕ, Bool, false, List, [], ◌++◌, Option, None, Some, inl, inr, refl, ap, sym, ◌∙◌, append_assoc}
+use Rattle.std.proofs.Common.{◌≡◌, ℕ, Bool, true, false, if◌then◌else◌, List, [], ◌∷◌, ◌++◌, Option, None, Some, Ok, ◌⊎◌, inl, inr, refl, ap, sym, ◌∙◌, append_assoc}
 use Rattle.std.proofs.lemmas.List.{append-nil}
 use Rattle.dart_base.specs.declared.place.Place.{Place}
 use Rattle.dart_token.specs.declared.token.Token.{Token}
 use Rattle.dart_token.specs.declared.sign.Sign.TheVariants as s
-use Rattle.grammar_laws.specs.Codes.{Apart, Within}
-use Rattle.grammar_laws.specs.Readers.{Reader, mapped, both, by_first, checked}
+use Rattle.dart_tree.specs.LeafTokens.{sign_at}
+use Rattle.grammar_laws.specs.Codes.{has, Apart, Within}
+use Rattle.grammar_laws.specs.Readers.{Reader, starts, mapped, both, by_first, checked}
 use Rattle.grammar_laws.specs.Fronts.{Front, Joint, Either, EitherFit, BothFit, GoodFit, Made, joined_spelling, both_spelling}
 use Rattle.grammar_laws.specs.Readers.{always}
 use Rattle.grammar_laws.specs.Halves.{with_none, strict}
-use Rattle.grammar_laws.specs.Laws.{Laws}
-use Rattle.grammar_laws.proofs.Codes.{within_self}
-use Rattle.grammar_laws.proofs.Restated.{mapped_laws, made_laws, refit, checked_laws}
+use Rattle.grammar_laws.specs.Laws.{Laws, Stops}
+use Rattle.grammar_laws.proofs.Codes.{not_true, within_self}
+use Rattle.grammar_laws.proofs.Joints.{begins}
+use Rattle.grammar_laws.proofs.Restated.{mapped_laws, made_laws, refit, refront, wider, checked_laws}
 use Rattle.grammar_laws.proofs.Combined.{both_laws}
 use Rattle.grammar_laws.proofs.Chosen.{by_first_laws}
 use Rattle.grammar_laws.proofs.Halves.{strict_laws}
 use Rattle.dart_syntax.specs.Leaves.{sign_tokens}
-use Rattle.token_codes.specs.Codes.{class_of}
+use Rattle.token_codes.specs.Codes.{class_of, sign_code}
 use Rattle.syntax_readers.specs.Combinators.{Open, with_half, shut}
 
 abbrev pub half_tokens : Place → List Token
@@ -38,6 +40,16 @@ pub record OpenLaws {A : Type 0} (read : Reader Token (Open A)) (tokens : A → 
   pub some_out : (x : A) (greater : Place) → Fits (x, Some greater) → F x
   pub laws : Laws class_of read (open_spelling tokens) Fits front first (after_open next half) false
 
+module _ {A : Type 0} {read : Reader Token (Open A)} {tokens : A → List Token} {F : A → Type 0} {front : Front Token} {first : List ℕ} {next half : A → List ℕ} (P : OpenLaws read tokens F front first next half) where
+  -- of a `>` behind the tree: the reader gives it as a half, or stops before it
+  abbrev pub Settled : A → Type 0
+  Settled x = ((g : Place) → P.Fits (x, Some g)) ⊎ ((g : Place) (ts : List Token) → read (open_spelling tokens (x, None) ++ sign_at g s.Greater ∷ ts) ≡ Ok ((x, None), sign_at g s.Greater ∷ ts))
+
+  -- it stops before what may not go on
+  pub stops_before : (x : A) → F x → has (next x) (sign_code s.Greater) ≡ false → Settled x
+  unfolding class_of
+  stops_before x fits off = inr (λ g ts. P.laws.complete (x, None) (sign_at g s.Greater ∷ ts) (P.none_in x fits) off)
+
 abbrev pub bare : {A : Type 0} → A → Open A
 bare x = (x, None)
 
@@ -49,6 +61,10 @@ behind x = x.1
 
 pub no_some : {A X : Type 0} {greater : Place} (z w : Open A) → z ≡ w → behind z ≡ Some greater → behind w ≡ None → X
 no_some {greater = greater} z w e f g = let h : Some greater ≡ None = sym f ∙ ap behind e ∙ g in absurd cc
+
+pub stops_first : (xs ys : List ℕ) (ts : List Token) → Apart xs ys → starts class_of ys ts ≡ true → Stops class_of xs ts
+stops_first xs ys [] off on = refl
+stops_first xs ys (t ∷ ts) off on = not_true (has xs (class_of t)) (λ h. off.never_both (class_of t) h on)
 
 -- ---- what ends in no operand
 
@@ -111,11 +127,19 @@ module _ {A B C : Type 0} {q : Reader Token B} {spell_q : B → List Token} {F_q
     laws = made_laws (both_laws Q P.laws apart) make (open_spelling made_tokens) (after_open made_next made_half) parts_said parts_on;
   }
 
+  pub prefix_settled : (b : B) (a : A) → F_q b → F a → Settled P a → Settled prefix_laws (f b a)
+  unfolding prefix_laws
+  prefix_settled b a at fits (inl known) = inl (λ g. ((b, (a, Some g)), (at, known g), refl))
+  prefix_settled b a at fits (inr stays) = inr (λ g ts.
+      let rest : List Token = sign_at g s.Greater ∷ ts in
+      let regrouped : open_spelling made_tokens (f b a, None) ++ rest ≡ spell_q b ++ (open_spelling tokens (a, None) ++ rest) = ap (λ (m : List Token). (m ++ []) ++ rest) (said b a at fits) ∙ ap (λ (m : List Token). m ++ rest) (append_assoc (spell_q b) (tokens a) []) ∙ append_assoc (spell_q b) (tokens a ++ []) rest in
+      ap (mapped make (both q read)) regrouped ∙ rw (Q.complete b (open_spelling tokens (a, None) ++ rest) at (stops_first (next_q b) first (open_spelling tokens (a, None) ++ rest) (apart b at) (begins P.laws (a, None) rest (P.none_in a fits))), stays g ts) refl)
+
 -- ---- of one kind or another, by the next token
 
 module _ {A : Type 0} {tokens : A → List Token} {next half : A → List ℕ}
     {r : Reader Token (Open A)} {F : A → Type 0} {front_r : Front Token} {first_r : List ℕ} (P : OpenLaws r tokens F front_r first_r next half)
-    {s : Reader Token (Open A)} {G : A → Type 0} {front_s : Front Token} {first_s : List ℕ} (Q : OpenLaws s tokens G front_s first_s next half) where
+    {other : Reader Token (Open A)} {G : A → Type 0} {front_s : Front Token} {first_s : List ℕ} (Q : OpenLaws other tokens G front_s first_s next half) where
   both_none_in : (x : A) → EitherFit F G x → EitherFit P.Fits Q.Fits (x, None)
   both_none_in x (inl fits) = inl (P.none_in x fits)
   both_none_in x (inr fits) = inr (Q.none_in x fits)
@@ -128,8 +152,23 @@ module _ {A : Type 0} {tokens : A → List Token} {next half : A → List ℕ}
   both_some_out x greater (inl fits) = inl (P.some_out x greater fits)
   both_some_out x greater (inr fits) = inr (Q.some_out x greater fits)
 
-  pub open_by_first_laws : Apart first_r first_s → OpenLaws (by_first class_of first_r r s) tokens (EitherFit F G) (Either front_r front_s) (first_r ++ first_s) next half
+  pub open_by_first_laws : Apart first_r first_s → OpenLaws (by_first class_of first_r r other) tokens (EitherFit F G) (Either front_r front_s) (first_r ++ first_s) next half
   open_by_first_laws apart = record { Fits = EitherFit P.Fits Q.Fits; none_in = both_none_in; none_out = both_none_out; some_out = both_some_out; laws = by_first_laws P.laws Q.laws apart }
+
+  -- of either kind what is settled stays so
+  pub first_settled : (apart : Apart first_r first_s) (x : A) → F x → Settled P x → Settled (open_by_first_laws apart) x
+  unfolding open_by_first_laws
+  first_settled apart x fits (inl known) = inl (λ g. inl (known g))
+  first_settled apart x fits (inr stays) = inr (λ g ts.
+      let list : List Token = open_spelling tokens (x, None) ++ sign_at g s.Greater ∷ ts in
+      ap (λ (c : Bool). if c then r list else other list) (begins P.laws (x, None) (sign_at g s.Greater ∷ ts) (P.none_in x fits)) ∙ stays g ts)
+
+  pub second_settled : (apart : Apart first_r first_s) (x : A) → G x → Settled Q x → Settled (open_by_first_laws apart) x
+  unfolding open_by_first_laws
+  second_settled apart x fits (inl known) = inl (λ g. inr (known g))
+  second_settled apart x fits (inr stays) = inr (λ g ts.
+      let list : List Token = open_spelling tokens (x, None) ++ sign_at g s.Greater ∷ ts in
+      ap (λ (c : Bool). if c then r list else other list) (stops_first first_r first_s list apart (begins Q.laws (x, None) (sign_at g s.Greater ∷ ts) (Q.none_in x fits))) ∙ stays g ts)
 
 -- ---- refused where it ends, by the tree or by a half
 
@@ -142,6 +181,36 @@ module _ {A : Type 0} {read : Reader Token (Open A)} {tokens : A → List Token}
     some_out = λ x greater fits. (P.some_out x greater fits.0, fits.1);
     laws = checked_laws P.laws (λ x. good x.0);
   }
+
+  pub checked_settled : (good : A → Bool) (x : A) → good x ≡ true → Settled P x → Settled (open_checked_laws good) x
+  unfolding open_checked_laws
+  checked_settled good x on (inl known) = inl (λ g. (known g, on))
+  checked_settled good x on (inr stays) = inr (λ g ts. rw (stays g ts, on) refl)
+
+  -- the same trees and fronts in other words
+  pub open_restated : {G : A → Type 0} {front' : Front Token} → ((x : A) → F x → G x) → ((x : A) → G x → F x) → ((ts : List Token) → front ts → front' ts) → ((ts : List Token) → front' ts → front ts) → OpenLaws read tokens G front' first next half
+  open_restated forth back out into = record {
+    Fits = P.Fits;
+    none_in = λ x fits. P.none_in x (back x fits);
+    none_out = λ x fits. forth x (P.none_out x fits);
+    some_out = λ x greater fits. forth x (P.some_out x greater fits);
+    laws = refront P.laws out into;
+  }
+
+  pub restated_settled : {G : A → Type 0} {front' : Front Token} (forth : (x : A) → F x → G x) (back : (x : A) → G x → F x) (out : (ts : List Token) → front ts → front' ts) (into : (ts : List Token) → front' ts → front ts) (x : A) → Settled P x → Settled (open_restated forth back out into) x
+  unfolding open_restated
+  restated_settled forth back out into x h = h
+
+  -- larger sets of what goes on
+  pub open_wider : {next' half' : A → List ℕ} → ((x : A) → F x → Within (next x) (next' x)) → ((x : A) → F x → Within (half x) (half' x)) → OpenLaws read tokens F front first next' half'
+  open_wider {next' = next'} {half' = half'} on on_half = record { Fits = P.Fits; none_in = P.none_in; none_out = P.none_out; some_out = P.some_out; laws = wider P.laws (within_self first) both_on } where
+    both_on : (x : Open A) → P.Fits x → Within (after_open next half x) (after_open next' half' x)
+    both_on (x, None) fits = on x (P.none_out x fits)
+    both_on (x, Some greater) fits = on_half x (P.some_out x greater fits)
+
+  pub wider_settled : {next' half' : A → List ℕ} (on : (x : A) → F x → Within (next x) (next' x)) (on_half : (x : A) → F x → Within (half x) (half' x)) (x : A) → Settled P x → Settled (open_wider on on_half) x
+  unfolding open_wider
+  wider_settled on on_half x h = h
 
   pub open_strict_laws : Laws class_of (strict read) tokens F front first next false
   open_strict_laws = refit (strict_laws tokens half_tokens P.laws) (λ x fits. P.none_out x fits) (λ x fits. P.none_in x fits)

@@ -1,32 +1,39 @@
--- The rows of the grammar's table whose operators are one sign each: each shape has one law.
-use Rattle.std.proofs.Common.{◌≡◌, ℕ, suc, ◌<◌, true, not, List, [], ◌∷◌, inl, inr, refl, ap, sym, ◌∙◌}
+-- The rows of the grammar's table: each shape has one law.
+use Rattle.std.proofs.Common.{◌≡◌, ℕ, suc, ◌<◌, Bool, true, false, not, List, [], ◌∷◌, inl, inr, refl, ap, sym, ◌∙◌}
 use Rattle.dart_token.specs.declared.token.Token.{Token}
 use Rattle.dart_token.specs.declared.sign.Sign.{Sign}
 use Rattle.dart_token.specs.declared.sign.Sign.TheVariants as s
 use Rattle.dart_tree.specs.declared.operator.Operator.{Operator}
+use Rattle.dart_tree.specs.LeafTokens.{type_tokens}
+use Rattle.dart_tree.specs.Types.{TypeNode}
 use Rattle.dart_tree.specs.Depth.{operand_height}
 use Rattle.dart_tree.specs.Tree.{Operand}
 use Rattle.dart_tree.specs.Tokens.{operand_tokens}
 use Rattle.grammar_laws.specs.Codes.{disjoint, within}
 use Rattle.grammar_laws.specs.Readers.{Reader}
 use Rattle.grammar_laws.specs.Fronts.{Front, Either, EitherFit, GoodFit}
-use Rattle.grammar_laws.proofs.Codes.{apart}
+use Rattle.grammar_laws.specs.Laws.{Laws}
+use Rattle.grammar_laws.proofs.Codes.{apart, clash}
 use Rattle.dart_syntax.specs.Phrases.{Phrase}
 use Rattle.dart_syntax.specs.Leaves as l
-use Rattle.dart_syntax.specs.Edges.{repeats, opens_nothing, operand_takes}
+use Rattle.dart_syntax.specs.Edges.{compares, repeats, leaves, opens_nothing, operand_takes}
 use Rattle.dart_syntax.specs.Expressions as g
 use Rattle.dart_syntax.specs.Levels.{level, sign_level}
-use Rattle.token_codes.specs.Codes.{sign_codes}
+use Rattle.token_codes.specs.Codes.{class_of, sign_codes}
 use Rattle.token_codes.proofs.Leaves.{Distinct, one_of_reads}
 use Rattle.syntax_readers.specs.Combinators.{Open}
-use Rattle.syntax_readers.specs.Primaries.{ExprReaders}
+use Rattle.syntax_readers.specs.Types.{type_first}
+use Rattle.syntax_readers.specs.Primaries.{ExprReaders, operand_first}
+use Rattle.laws_type.specs.Nexts.{after_type}
 use Rattle.syntax_readers.specs.Levels.{whole, is_bare, row_over}
 use Rattle.laws_expr.specs.Nexts.{Taking, nexts, after_operand}
 use Rattle.laws_expr.proofs.Behind.{alone}
-use Rattle.laws_expr.proofs.Open.{OpenLaws}
+use Rattle.laws_expr.proofs.Open.{OpenLaws, Settled}
 use Rattle.laws_expr.proofs.Edges.{at, codes_at, others_apart}
 use Rattle.laws_expr.proofs.Chain.{half_operand, chain_laws}
 use Rattle.laws_expr.proofs.Once.{once_laws}
+use Rattle.laws_expr.proofs.Shifts.{shift_laws}
+use Rattle.laws_expr.proofs.Relational.{relational_laws}
 
 -- these signs are one row of the table of what goes on, and bind alike
 pub record IsRow (signs : List Sign) (loose row : ℕ) : Type 0 where
@@ -107,3 +114,22 @@ module _ {n : ℕ} (inner : ExprReaders) (nodes : g.ExprNodes) {here lower : Rea
       OpenLaws (row_over n inner (g.single sign more) here lower) operand_tokens (GoodFit (EitherFit F (g.row_over (g.single sign more) nodes (operands U ufront)).Fits) (λ x. not (is_bare x))) (Either front (g.row_over (g.single sign more) nodes (operands U ufront)).front) first (after_operand (sign_level sign)) (half_operand (sign_level sign))
   unfolding row_over
   single_laws sign more row is O = once_laws (sign_level sign) n (sign ∷ more) row is.others is.own is.here is.apart_alone (one_of_reads (sign ∷ more) is.distinct) is.leveled O.above lower O.below O.down O.up O.rise O.rises
+
+  -- shifts, where of a `>` behind an operand that leaves them it is known whether it is read with it
+  pub shift_row_laws : (O : Operands n (sign_level s.ShiftLeft) here lower F U (EitherFit U nodes.bare.Fits) front ufront (Either ufront nodes.bare.front) first ufirst) →
+      ((x : Operand) → F x → leaves (sign_level s.ShiftLeft) x ≡ true → Settled O.above x) → ((x : Operand) → U x → leaves (sign_level s.ShiftLeft) x ≡ true → Settled O.below x) →
+      OpenLaws (row_over n inner g.shifts here lower) operand_tokens (EitherFit F (g.row_over g.shifts nodes (operands U ufront)).Fits) (Either front (g.row_over g.shifts nodes (operands U ufront)).front) first (after_operand (sign_level s.ShiftLeft)) (half_operand (sign_level s.ShiftLeft))
+  unfolding row_over
+  shift_row_laws O decide decide_low = shift_laws n O.above decide lower O.below decide_low O.down O.up O.rise O.rises
+
+-- comparisons, likewise; their operands begin as any operand does, and `super` alone is never tested or cast
+module _ {n : ℕ} (inner : ExprReaders) (nodes : g.ExprNodes) {here lower : Reader Token (Open Operand)} {F U : Operand → Type 0} {front ufront : Front Token} {first : List ℕ} where
+  pub comparison_laws : (O : Operands n compares here lower F U (EitherFit U nodes.bare.Fits) front ufront (Either ufront nodes.bare.front) first operand_first) →
+      ((x : Operand) → F x → leaves compares x ≡ true → Settled O.above x) → Laws class_of inner.type type_tokens nodes.type.Fits nodes.type.front type_first after_type false →
+      ((x : Operand) → nodes.bare.Fits x → is_bare x ≡ true) → ((x : Operand) → U x → is_bare x ≡ false) → ((opens : TypeNode → Bool) (x : Operand) → F x → operand_takes compares opens compares x ≡ true) →
+      OpenLaws (row_over n inner g.comparison here lower) operand_tokens (EitherFit F (g.row_over g.comparison nodes (operands U ufront)).Fits) (Either front (g.row_over g.comparison nodes (operands U ufront)).front) first (after_operand compares) (half_operand compares)
+  unfolding row_over
+  comparison_laws O decide types bare_is plain_is rises = relational_laws n O.above decide types lower O.below O.down O.up O.rise plain (λ x fits. (inl fits, plain_is x fits)) (λ ts f. inl f) rises where
+    plain : (x : Operand) → EitherFit U nodes.bare.Fits x → is_bare x ≡ false → U x
+    plain x (inl fits) off = fits
+    plain x (inr fits) off = clash (is_bare x) (bare_is x fits) off

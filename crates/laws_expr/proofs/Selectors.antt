@@ -7,7 +7,8 @@ use Rattle.dart_tree.specs.Tree as t
 use Rattle.dart_tree.specs.Tree.{Expr, Selector, Selectors, Arguments}
 use Rattle.dart_tree.specs.Tokens.{expr_tokens, selector_tokens, selectors_tokens}
 use Rattle.grammar_laws.specs.Codes.{nowhere, is_empty}
-use Rattle.grammar_laws.specs.Readers.{Reader, always}
+use Rattle.grammar_laws.specs.Readers.{Reader, always, mapped, by_first}
+use Rattle.grammar_laws.specs.Halves.{strict}
 use Rattle.grammar_laws.specs.Fronts.{Several}
 use Rattle.grammar_laws.specs.Laws.{Laws}
 use Rattle.grammar_laws.proofs.Codes.{apart, apart_none, apart_smaller, inside, within_self}
@@ -34,7 +35,7 @@ use Rattle.laws_expr.proofs.Known.{ClosedRead}
 abbrev pub index_over : Phrase Expr → Phrase Selector
 index_over expr = made₃ selector_tokens t.index (l.sign s.LeftBracket ~ expr ~ l.sign s.RightBracket)
 
-member_laws : Reads member g.member (these s.Dot) nowhere false
+pub member_laws : Reads member g.member (these s.Dot) nowhere false
 unfolding member selector_tokens
 member_laws = made_laws (both_laws (sign_reads s.Dot) identifier_reads (λ place fits. apart refl)) (λ x. t.member (Some x.0) x.1) selector_tokens nowhere (λ x fits. refl) (λ x fits. within_self [])
 
@@ -51,9 +52,17 @@ unfolding selector_tokens
 index_agrees A = made_agrees selector_tokens _ (seq_agrees (sign_agrees s.LeftBracket) (seq_agrees A (sign_agrees s.RightBracket))) (λ x fits. refl)
 
 module _ {here : ExprReaders} {nodes : g.ExprNodes} (N : ClosedRead here nodes) where
+  -- [ expression ] | arguments
+  abbrev bracketed : Reader Token Selector
+  bracketed = by_first class_of (these s.LeftBracket) (index (strict here.expr)) (mapped t.call here.arguments)
+
+  pub bracketed_laws : Reads bracketed (g.bracketed_of nodes) (these s.LeftBracket ++ these s.LeftParenthesis) nowhere false
+  unfolding selector_tokens
+  bracketed_laws = by_first_laws (index_laws N.expr N.agrees.expr) (made_laws N.arguments t.call selector_tokens nowhere (λ x fits. sym (N.agrees.arguments.spells x)) (λ x fits. within_self [])) (apart refl)
+
   pub selector_laws : Reads (selector here) (g.selector_of nodes) selector_first nowhere false
   unfolding selector selector_tokens
-  selector_laws = by_first_laws member_laws (by_first_laws (index_laws N.expr N.agrees.expr) (made_laws N.arguments t.call selector_tokens nowhere (λ x fits. sym (N.agrees.arguments.spells x)) (λ x fits. within_self [])) (apart refl)) (apart refl)
+  selector_laws = by_first_laws member_laws bracketed_laws (apart refl)
 
   selector_agree : Agrees selector_tokens (g.selector_of nodes)
   unfolding selector_tokens

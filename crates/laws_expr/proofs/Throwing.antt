@@ -1,5 +1,5 @@
 -- The laws of the readers of `throw`, and of expressions without cascade from those of conditional ones (ECMA-408, 16 Expressions).
-use Rattle.std.proofs.Common.{◌≡◌, ℕ, Bool, true, false, List, [], ◌++◌, length, Option, None, Some, Ok, Err, ◌⊎◌, inl, inr, refl, ap, sym, ◌∙◌, subst, append_assoc}
+use Rattle.std.proofs.Common.{◌≡◌, ℕ, Bool, true, false, List, [], ◌++◌, length, Option, None, Some, Ok, Err, inl, inr, refl, ap, sym, ◌∙◌, subst, append_assoc}
 use Rattle.std.proofs.lemmas.List.{append-nil}
 use Rattle.dart_base.specs.declared.place.Place.{Place}
 use Rattle.dart_token.specs.declared.token.Token.{Token}
@@ -9,7 +9,7 @@ use Rattle.dart_tree.specs.declared.operator.Operator.{Operator}
 use Rattle.dart_tree.specs.declared.expression.Atom.TheVariants as a
 use Rattle.dart_tree.specs.LeafTokens.{operator_tokens}
 use Rattle.dart_tree.specs.Tree as t
-use Rattle.dart_tree.specs.Tree.{Expr, Operand, Selector}
+use Rattle.dart_tree.specs.Tree.{Expr, Operand}
 use Rattle.dart_tree.specs.Tokens.{expr_tokens, operand_tokens}
 use Rattle.grammar_laws.specs.Codes.{has, Apart, Within, given, after_followed_by}
 use Rattle.grammar_laws.specs.Readers.{Outcome, Reader, and_then, always, never, mapped, when, starts, continued_by}
@@ -31,7 +31,7 @@ use Rattle.syntax_readers.specs.Primaries.{ExprReaders, operand_first, expr_firs
 use Rattle.syntax_readers.specs.Levels.{LevelReaders, assigns}
 use Rattle.syntax_readers.specs.Expressions.{Assigned, Behind, assigned, an_expr, assign_codes, assignment, opened, throw, without_over}
 use Rattle.laws_expr.specs.Nexts.{Taking, nexts, taken, assigning, stepping, expr_alone, operand_alone, after_expr, after_without, after_operand}
-use Rattle.laws_expr.proofs.Open.{OpenLaws, open_spelling, half_tokens, after_open, bare, tree, no_some, prefix_laws, open_by_first_laws}
+use Rattle.laws_expr.proofs.Open.{OpenLaws, Settled, open_spelling, half_tokens, after_open, bare, tree, no_some, prefix_laws, open_by_first_laws}
 use Rattle.laws_expr.proofs.Edges.{within_at, apart_all}
 use Rattle.laws_expr.proofs.Chain.{given_more, half_of, half_operand}
 use Rattle.laws_expr.proofs.Once.{half_without}
@@ -55,13 +55,29 @@ target_takes (t.primary (t.super_access word selector)) e = refl
 target_takes (t.postfix x behind None) e = refl
 target_takes x e = absurd cc
 
+-- behind a target stand no other sign of an assignment and, behind its half, no rest of one
+given_none : (b : Bool) {ys : List ℕ} (xs : List ℕ) → Apart xs ys → Apart (given b xs) ys
+given_none true xs off = off
+given_none false {ys = ys} xs off = apart_none ys
+
+pub target_assign : (x : Operand) → assigns x ≡ true → Apart (after_operand question x ++ given (assigns x) (these s.Greater)) (sign_codes assignment_signs)
+target_assign x on = apart_union (apart_union (apart_all nexts (sign_codes assignment_signs) (λ next opens. operand_takes next opens question x) refl) (apart_smaller (target_alone x on) (apart refl))) (apart_smaller (within_given (assigns x) (λ e. within_self (these s.Greater))) (apart refl))
+
+pub target_equal : (x : Operand) → assigns x ≡ true → Apart (half_operand question x) (these s.GreaterEqual)
+target_equal x on =
+    let takes : Taking = λ next opens. operand_takes next opens question x in
+    apart_union (given_none (takes (sign_level s.ShiftLeft) opens_nothing) (these s.Greater) (apart refl)) (apart_union (given_none (takes compares opens_nothing) operand_first (apart refl)) (off (has (operand_alone x) (sign_code s.Assign)) refl)) where
+      off : (b : Bool) → has (operand_alone x) (sign_code s.Assign) ≡ b → Apart (given b (these s.GreaterEqual)) (these s.GreaterEqual)
+      off false e = apart_none (these s.GreaterEqual)
+      off true e = let bad : has stepping (sign_code s.Assign) ≡ true = (target_alone x on).in_second (sign_code s.Assign) e in absurd cc
+
 -- ---- throw
 
 module _ (inner : ExprReaders) {E : Expr → Type 0} {efront : Front Token} (X : OpenLaws inner.expr expr_tokens E efront expr_first after_expr half_expr) where
-  abbrev Throwing : Expr → Type 0
+  abbrev pub Throwing : Expr → Type 0
   Throwing = Made (λ (x : Place × Expr). t.throw x.0 x.1) (BothFit Anything E)
 
-  abbrev throwing_front : Front Token
+  abbrev pub throwing_front : Front Token
   throwing_front = Joint (word_tokens w.Throw) Anything always (l.word w.Throw).front efront
 
   pub throw_laws : OpenLaws (throw inner) expr_tokens Throwing throwing_front (this_word w.Throw) after_without half_without
@@ -79,7 +95,7 @@ given_in : (b : Bool) (xs ys : List ℕ) → Within xs ys → Within (given b xs
 given_in true xs ys k = k
 given_in false xs ys k = within_none []
 
-plain_on : (x : Operand) → Within ((after_operand question x ++ given (assigns x) (these s.Greater)) ++ given (assigns x) (sign_codes assignment_signs)) (after_without (t.plain x t.no_cascades))
+pub plain_on : (x : Operand) → Within ((after_operand question x ++ given (assigns x) (these s.Greater)) ++ given (assigns x) (sign_codes assignment_signs)) (after_without (t.plain x t.no_cascades))
 unfolding expr_takes expr_alone
 plain_on x =
     let takes : Taking = λ next opens. operand_takes next opens question x in
@@ -88,7 +104,7 @@ plain_on x =
     (within_given (assigns x) (λ e. within_then (within_at 6 nexts (these s.Greater) takes refl (target_takes x e)) (within_left (taken takes) own))))
     (within_then (within_left (given (assigns x) assigning) (operand_alone x)) (within_right (taken takes) own))
 
-half_third : (takes : Taking) (b c : Bool) (xs ys : List ℕ) → (has xs (sign_code s.Assign) ≡ true → has ys (sign_code s.Assign) ≡ true) → Within (half_of takes xs) (half_of takes ys)
+pub half_third : (takes : Taking) (b c : Bool) (xs ys : List ℕ) → (has xs (sign_code s.Assign) ≡ true → has ys (sign_code s.Assign) ≡ true) → Within (half_of takes xs) (half_of takes ys)
 half_third takes b c xs ys on =
     let shifts : List ℕ = given (takes (sign_level s.ShiftLeft) opens_nothing) (these s.Greater) in
     let compared : List ℕ = given (takes compares opens_nothing) operand_first in
@@ -106,7 +122,7 @@ half_has takes xs e =
     let own : List ℕ = given (has xs (sign_code s.Assign)) (these s.GreaterEqual) in
     within_then (given_more true (has xs (sign_code s.Assign)) (these s.GreaterEqual) (λ h. e)) (within_then (within_right compared own) (within_right shifts (compared ++ own)))
 
-half_plain_on : (x : Operand) → Within (half_operand question x ++ given (assigns x) (these s.GreaterEqual)) (half_without (t.plain x t.no_cascades))
+pub half_plain_on : (x : Operand) → Within (half_operand question x ++ given (assigns x) (these s.GreaterEqual)) (half_without (t.plain x t.no_cascades))
 unfolding expr_takes expr_alone
 half_plain_on x =
     let takes : Taking = λ next opens. operand_takes next opens question x in
@@ -117,25 +133,16 @@ half_plain_on x =
 module _ (inner : ExprReaders) (levels : LevelReaders) (nodes : g.ExprNodes)
     (W : OpenLaws inner.without expr_tokens nodes.without.Fits nodes.without.front expr_first after_without half_without)
     {R : Operand → Type 0} {rfront : Front Token} (Row : OpenLaws (levels.row (length rows)) operand_tokens R rfront operand_first (after_operand question) (half_operand question))
-    (decide : (x : Operand) → R x → assigns x ≡ true → ((g : Place) → Row.Fits (x, Some g)) ⊎ (has (after_operand question x) (sign_code s.Greater) ≡ false))
+    (decide : (x : Operand) → R x → assigns x ≡ true → Settled Row x)
     {T : Operand → Type 0} {tfront : Front Token} (to_target : (x : Operand) → R x → assigns x ≡ true → T x) (of_target : (x : Operand) → T x → R x × (assigns x ≡ true)) (begun : (ts : List Token) → tfront ts → rfront ts) where
   abbrev row_half : OpenLaws (halved assigns (levels.row (length rows))) operand_tokens R (Joint operand_tokens R assigns rfront (l.sign s.Greater).front) operand_first (λ x. after_operand question x ++ given (assigns x) (these s.Greater)) (half_operand question)
   row_half = halved_laws Row assigns decide
 
   no_assign : (x : Operand) → R x → assigns x ≡ true → Apart (after_operand question x ++ given (assigns x) (these s.Greater)) (sign_codes assignment_signs)
-  no_assign x fits on = apart_union (apart_union (apart_all nexts (sign_codes assignment_signs) (λ next opens. operand_takes next opens question x) refl) (apart_smaller (target_alone x on) (apart refl))) (apart_smaller (within_given (assigns x) (λ e. within_self (these s.Greater))) (apart refl))
-
-  given_off : (b : Bool) {ys : List ℕ} (xs : List ℕ) → Apart xs ys → Apart (given b xs) ys
-  given_off true xs off = off
-  given_off false {ys = ys} xs off = apart_none ys
+  no_assign x fits on = target_assign x on
 
   no_equal : (x : Operand) → R x → assigns x ≡ true → Apart (half_operand question x) (these s.GreaterEqual)
-  no_equal x fits on =
-      let takes : Taking = λ next opens. operand_takes next opens question x in
-      apart_union (given_off (takes (sign_level s.ShiftLeft) opens_nothing) (these s.Greater) (apart refl)) (apart_union (given_off (takes compares opens_nothing) operand_first (apart refl)) (off (has (operand_alone x) (sign_code s.Assign)) refl)) where
-        off : (b : Bool) → has (operand_alone x) (sign_code s.Assign) ≡ b → Apart (given b (these s.GreaterEqual)) (these s.GreaterEqual)
-        off false e = apart_none (these s.GreaterEqual)
-        off true e = let bad : has stepping (sign_code s.Assign) ≡ true = (target_alone x on).in_second (sign_code s.Assign) e in absurd cc
+  no_equal x fits on = target_equal x on
 
   halves : (x : Operand) (g : Place) → R x → assigns x ≡ true → row_half.Fits (x, Some g)
   halves x g fits on = inr (fits, on)

@@ -1,0 +1,286 @@
+-- What may stand behind the first operand of a comparison (ECMA-408, 16.24 Relational Expressions, 16.34 Type Test, 16.35 Type Cast), and which
+-- operators come: an operator with its operand or its type, or, behind a half that was read, an operand alone.
+use Rattle.std.proofs.Common.{◌≡◌, ℕ, Bool, true, false, List, [], ◌∷◌, ◌++◌, Option, None, Some, ◌⊎◌, inl, inr, refl, ap, sym, subst}
+use Rattle.dart_base.specs.declared.place.Place.{Place}
+use Rattle.dart_token.specs.declared.token.Token.{Token}
+use Rattle.dart_token.specs.declared.sign.Sign.TheVariants as s
+use Rattle.dart_token.specs.declared.word.Word.TheVariants as w
+use Rattle.dart_tree.specs.declared.operator.Operator.{Operator}
+use Rattle.dart_tree.specs.LeafTokens.{operator_tokens, type_tokens}
+use Rattle.dart_tree.specs.Types.{TypeNode, dynamic_type, named_type, no_types, listed_types}
+use Rattle.dart_tree.specs.Tree as t
+use Rattle.dart_tree.specs.Tree.{Operand}
+use Rattle.dart_tree.specs.Tokens.{operand_tokens}
+use Rattle.grammar_laws.specs.Codes.{has, Apart, Within, nowhere, given, after_option}
+use Rattle.grammar_laws.specs.Readers.{Reader, always, mapped, option}
+use Rattle.grammar_laws.specs.Fronts.{Front, Joint, Either, EitherFit, BothFit, OptionFit, Made, both_spelling, option_spelling}
+use Rattle.grammar_laws.specs.Laws.{Laws}
+use Rattle.grammar_laws.proofs.Codes.{apart, apart_none, has_cases, has_left, has_right, has_given, given_has, inside, within_none, within_then, within_union, within_given, within_self, within_left}
+use Rattle.grammar_laws.proofs.Restated.{made_laws, mapped_laws, refit, refront, wider}
+use Rattle.grammar_laws.proofs.Combined.{both_laws, both_any_laws}
+use Rattle.grammar_laws.proofs.Chosen.{by_first_laws}
+use Rattle.grammar_laws.proofs.Followed.{option_laws}
+use Rattle.dart_syntax.specs.Phrases.{Anything}
+use Rattle.dart_syntax.specs.Leaves as l
+use Rattle.dart_syntax.specs.Leaves.{sign_tokens, word_tokens}
+use Rattle.dart_syntax.specs.Edges.{opens_less, opens_dot, operand_takes}
+use Rattle.dart_syntax.specs.Levels.{level}
+use Rattle.token_codes.specs.Codes.{class_of, sign_code, word_code, these, this_word, sign_codes}
+use Rattle.token_codes.specs.Leaves.{sign, word, one_of}
+use Rattle.token_codes.proofs.Leaves.{Distinct, sign_reads, word_reads, one_of_reads}
+use Rattle.syntax_readers.specs.Combinators.{◌~◌, made₂, made₃, Open}
+use Rattle.syntax_readers.specs.Primaries.{operand_first}
+use Rattle.syntax_readers.specs.Types.{type_first}
+use Rattle.syntax_readers.specs.Levels.{whole, comparing, Compared, compared, tested, cast, compared_with}
+use Rattle.laws_type.specs.Nexts.{after_type}
+use Rattle.laws_expr.specs.Nexts.{Taking, nexts, taken, operand_alone, after_operand}
+use Rattle.laws_expr.proofs.Open.{OpenLaws, open_spelling, after_open}
+use Rattle.laws_expr.proofs.Edges.{within_at}
+use Rattle.laws_expr.proofs.Chain.{half_operand}
+
+-- ---- what goes on behind a type, and behind the two trees that end in one
+
+pub by_type : (of : TypeNode) (takes : Taking) (own : List ℕ) → ((next : ℕ) (opens : TypeNode → Bool) → opens of ≡ true → (next ≡ 5) ⊎ (next ≡ 13) → takes next opens ≡ true) → Within (after_type of) (taken takes ++ own)
+by_type (dynamic_type place) takes own on = within_none (taken takes ++ own)
+by_type (named_type name None no_types) takes own on =
+    within_then (within_union (within_at 5 nexts (these s.Less) takes refl (on 5 opens_less refl (inl refl))) (within_at 13 nexts (these s.Dot) takes refl (on 13 opens_dot refl (inr refl)))) (within_left (taken takes) own)
+by_type (named_type name (Some member) no_types) takes own on = within_then (within_at 5 nexts (these s.Less) takes refl (on 5 opens_less refl (inl refl))) (within_left (taken takes) own)
+by_type (named_type name member (listed_types opening listed closing)) takes own on = within_none (taken takes ++ own)
+
+pub is_on : (x : Operand) (place : Place) (bang : Option Place) (of : TypeNode) → Within (after_type of) (after_operand 5 (t.is_type x place bang of))
+unfolding operand_takes
+is_on x place bang of = by_type of (λ next opens. operand_takes next opens 5 (t.is_type x place bang of)) (operand_alone (t.is_type x place bang of)) takes where
+  takes : (next : ℕ) (opens : TypeNode → Bool) → opens of ≡ true → (next ≡ 5) ⊎ (next ≡ 13) → operand_takes next opens 5 (t.is_type x place bang of) ≡ true
+  takes next opens h (inl e) = subst (λ (m : ℕ). operand_takes m opens 5 (t.is_type x place bang of) ≡ true) (sym e) h
+  takes next opens h (inr e) = subst (λ (m : ℕ). operand_takes m opens 5 (t.is_type x place bang of) ≡ true) (sym e) h
+
+pub as_on : (x : Operand) (place : Place) (of : TypeNode) → Within (after_type of) (after_operand 5 (t.as_type x place of))
+unfolding operand_takes
+as_on x place of = by_type of (λ next opens. operand_takes next opens 5 (t.as_type x place of)) (operand_alone (t.as_type x place of)) takes where
+  takes : (next : ℕ) (opens : TypeNode → Bool) → opens of ≡ true → (next ≡ 5) ⊎ (next ≡ 13) → operand_takes next opens 5 (t.as_type x place of) ≡ true
+  takes next opens h (inl e) = subst (λ (m : ℕ). operand_takes m opens 5 (t.as_type x place of) ≡ true) (sym e) h
+  takes next opens h (inr e) = subst (λ (m : ℕ). operand_takes m opens 5 (t.as_type x place of) ≡ true) (sym e) h
+
+-- ---- the operators
+
+abbrev pub others : List ℕ
+others = sign_codes (s.LessEqual ∷ s.GreaterEqual ∷ [])
+
+abbrev pub types : List ℕ
+types = word_code w.Is ∷ word_code w.As ∷ []
+
+pub distinct_comparing : Distinct comparing
+distinct_comparing = (apart refl, (apart refl, (apart refl, (apart refl, tt))))
+
+-- an operator is `<`, or one of the others
+abbrev pub Lesser : Operator → Type 0
+Lesser = (l.one_of (s.Less ∷ [])).Fits
+
+abbrev pub Rest : Operator → Type 0
+Rest = (l.one_of (s.Greater ∷ s.LessEqual ∷ s.GreaterEqual ∷ [])).Fits
+
+pub less_level : (x : Operator) → Lesser x → level x ≡ 5
+less_level x (inl (place, fits, is)) = ap level (sym is)
+less_level x (inr none) = absurd none
+
+pub rest_level : (x : Operator) → Rest x → level x ≡ 5
+rest_level x (inl (place, fits, is)) = ap level (sym is)
+rest_level x (inr (inl (place, fits, is))) = ap level (sym is)
+rest_level x (inr (inr (inl (place, fits, is)))) = ap level (sym is)
+rest_level x (inr (inr (inr none))) = absurd none
+
+pub comparing_level : (x : Operator) → (l.one_of comparing).Fits x → level x ≡ 5
+comparing_level x (inl (place, fits, is)) = ap level (sym is)
+comparing_level x (inr fits) = rest_level x fits
+
+-- ---- an operand, an operator with its operand, or one with its type
+
+abbrev pub Behind : Type 0
+Behind = Open Operand ⊎ Compared
+
+abbrev pub compared_tokens : Compared → List Token
+compared_tokens (compared operator y) = operator_tokens operator ++ open_spelling operand_tokens y
+compared_tokens (tested place bang of) = word_tokens w.Is place ++ (option_spelling (sign_tokens s.Bang) bang ++ type_tokens of)
+compared_tokens (cast place of) = word_tokens w.As place ++ type_tokens of
+
+abbrev pub spelled : Behind → List Token
+spelled (inl y) = open_spelling operand_tokens y
+spelled (inr c) = compared_tokens c
+
+abbrev pub after_behind : Behind → List ℕ
+after_behind (inl y) = after_open (after_operand 6) (half_operand 6) y
+after_behind (inr (compared operator y)) = after_open (after_operand 6) (half_operand 6) y
+after_behind (inr (tested place bang of)) = after_type of
+after_behind (inr (cast place of)) = after_type of
+
+-- ---- the readers of what stands behind the first operand
+
+module _ {type : Reader Token TypeNode} {T : TypeNode → Type 0} {tfront : Front Token} (Types : Laws class_of type type_tokens T tfront type_first after_type false)
+    (lower : Reader Token (Open Operand)) {U : Operand → Type 0} {ufront : Front Token} (L : OpenLaws (whole lower) operand_tokens U ufront operand_first (after_operand 6) (half_operand 6)) where
+  abbrev pub Bangs : Option Place → Type 0
+  Bangs = OptionFit Anything
+
+  abbrev pub ComparedFits : Compared → Type 0
+  ComparedFits (compared operator y) = (l.one_of comparing).Fits operator × L.Fits y
+  ComparedFits (tested place bang of) = Bangs bang × T of
+  ComparedFits (cast place of) = T of
+
+  abbrev pub operators_front : Front Token
+  operators_front = Joint operator_tokens (l.one_of comparing).Fits always (l.one_of comparing).front ufront
+
+  abbrev pub tested_front : Front Token
+  tested_front = Joint (word_tokens w.Is) Anything always (l.word w.Is).front (Joint (option_spelling (sign_tokens s.Bang)) Bangs always (l.sign s.Bang).front tfront)
+
+  abbrev pub cast_front : Front Token
+  cast_front = Joint (word_tokens w.As) Anything always (l.word w.As).front tfront
+
+  abbrev pub compared_front : Front Token
+  compared_front = Either tested_front (Either cast_front operators_front)
+
+  abbrev pub BehindFits : Option Place → Behind → Type 0
+  BehindFits (Some g) (inl y) = L.Fits y
+  BehindFits (Some g) (inr c) = ⊥
+  BehindFits None (inl y) = ⊥
+  BehindFits None (inr c) = ComparedFits c
+
+  abbrev pub behind_front : Option Place → Front Token
+  behind_front (Some g) = ufront
+  behind_front None = compared_front
+
+  abbrev pub behind_first : Option Place → List ℕ
+  behind_first (Some g) = operand_first
+  behind_first None = this_word w.Is ++ (this_word w.As ++ sign_codes comparing)
+
+  abbrev pub behind_reader : Option Place → Reader Token Behind
+  behind_reader (Some g) = mapped (λ y. inl y) (whole lower)
+  behind_reader None = mapped (λ c. inr c) (compared_with None type lower)
+
+  abbrev pub Tests : Type 0
+  Tests = Place × (Option Place × TypeNode)
+
+  pub tested_of : (c : Compared) → Made (λ (x : Tests). tested x.0 x.1.0 x.1.1) (BothFit Anything (BothFit Bangs T)) c → ComparedFits c
+  tested_of c ((place, (bang, of)), fits, is) = subst ComparedFits is (fits.1.0, fits.1.1)
+
+  pub cast_of : (c : Compared) → Made (λ (x : Place × TypeNode). cast x.0 x.1) (BothFit Anything T) c → ComparedFits c
+  cast_of c ((place, of), fits, is) = subst ComparedFits is fits.1
+
+  pub compared_of : (c : Compared) → Made (λ (x : Operator × Open Operand). compared x.0 x.1) (BothFit (l.one_of comparing).Fits L.Fits) c → ComparedFits c
+  compared_of c ((operator, y), fits, is) = subst ComparedFits is (fits.0, fits.1)
+
+  abbrev pub Kinds : Compared → Type 0
+  Kinds = EitherFit (Made (λ (x : Tests). tested x.0 x.1.0 x.1.1) (BothFit Anything (BothFit Bangs T))) (EitherFit (Made (λ (x : Place × TypeNode). cast x.0 x.1) (BothFit Anything T)) (Made (λ (x : Operator × Open Operand). compared x.0 x.1) (BothFit (l.one_of comparing).Fits L.Fits)))
+
+  pub kinds_out : (c : Compared) → Kinds c → ComparedFits c
+  kinds_out c (inl fits) = tested_of c fits
+  kinds_out c (inr (inl fits)) = cast_of c fits
+  kinds_out c (inr (inr fits)) = compared_of c fits
+
+  pub kinds_in : (c : Compared) → ComparedFits c → Kinds c
+  kinds_in (tested place bang of) fits = inl ((place, (bang, of)), (tt, (fits.0, fits.1)), refl)
+  kinds_in (cast place of) fits = inr (inl ((place, of), (tt, fits), refl))
+  kinds_in (compared operator y) fits = inr (inr ((operator, y), (fits.0, fits.1), refl))
+
+  abbrev pub after_compared : Compared → List ℕ
+  after_compared c = after_behind (inr c)
+
+  abbrev pub bang_first : List ℕ
+  bang_first = these s.Bang ++ type_first
+
+  pub bang_apart : (x : Option Place) → Bangs x → Apart (after_option (these s.Bang) nowhere x) type_first
+  bang_apart None fits = apart refl
+  bang_apart (Some place) fits = apart_none type_first
+
+  pub bang_laws : Laws class_of (option class_of (these s.Bang) (sign s.Bang) ~ type) (both_spelling (option_spelling (sign_tokens s.Bang)) type_tokens) (BothFit Bangs T) (Joint (option_spelling (sign_tokens s.Bang)) Bangs always (l.sign s.Bang).front tfront) bang_first (λ x. after_type x.1) false
+  bang_laws = wider (both_any_laws (option_laws (sign_reads s.Bang)) Types bang_apart) (within_self bang_first) (λ x fits. within_union (within_self (after_type x.1)) (within_none (after_type x.1)))
+
+  abbrev pub Tested : Compared → Type 0
+  Tested = Made (λ (x : Tests). tested x.0 x.1.0 x.1.1) (BothFit Anything (BothFit Bangs T))
+
+  pub tested_laws : Laws class_of (made₃ tested (word w.Is ~ option class_of (these s.Bang) (sign s.Bang) ~ type)) compared_tokens Tested tested_front (this_word w.Is) after_compared false
+  tested_laws = made_laws (both_laws (word_reads w.Is) bang_laws (λ place fits. apart_none bang_first)) (λ (x : Tests). tested x.0 x.1.0 x.1.1) compared_tokens after_compared (λ x fits. refl) (λ x fits. within_self (after_type x.1.1))
+
+  pub cast_laws : Laws class_of (made₂ cast (word w.As ~ type)) compared_tokens (Made (λ (x : Place × TypeNode). cast x.0 x.1) (BothFit Anything T)) cast_front (this_word w.As) after_compared false
+  cast_laws = made_laws (both_laws (word_reads w.As) Types (λ place fits. apart_none type_first)) (λ (x : Place × TypeNode). cast x.0 x.1) compared_tokens after_compared (λ x fits. refl) (λ x fits. within_self (after_type x.1))
+
+  pub operators_laws : Laws class_of (made₂ compared (one_of comparing ~ whole lower)) compared_tokens (Made (λ (x : Operator × Open Operand). compared x.0 x.1) (BothFit (l.one_of comparing).Fits L.Fits)) operators_front (sign_codes comparing) after_compared false
+  operators_laws = refront (made_laws (both_laws (one_of_reads comparing distinct_comparing) L.laws (λ x fits. apart_none operand_first)) (λ (x : Operator × Open Operand). compared x.0 x.1) compared_tokens after_compared (λ x fits. refl) (λ x fits. within_self (after_open (after_operand 6) (half_operand 6) x.1))) (λ ts f. f) (λ ts f. f)
+
+  pub compared_laws : Laws class_of (compared_with None type lower) compared_tokens ComparedFits compared_front (behind_first None) after_compared false
+  unfolding compared_with
+  compared_laws = refit (by_first_laws tested_laws (by_first_laws cast_laws operators_laws (apart refl)) (apart refl)) kinds_out kinds_in
+
+  pub inl_back : (b : Behind) (g : Place) → BehindFits (Some g) b → (y : Open Operand) × L.Fits y × (inl y ≡ b)
+  inl_back (inl y) g fits = (y, fits, refl)
+  inl_back (inr c) g fits = absurd fits
+
+  pub inr_back : (b : Behind) → BehindFits None b → (c : Compared) × ComparedFits c × (inr c ≡ b)
+  inr_back (inl y) fits = absurd fits
+  inr_back (inr c) fits = (c, fits, refl)
+
+  pub behind_laws : (h : Option Place) → Laws class_of (behind_reader h) spelled (BehindFits h) (behind_front h) (behind_first h) after_behind false
+  behind_laws (Some g) = mapped_laws L.laws (λ y. inl y) spelled after_behind (λ y fits. (fits, refl, within_self (after_open (after_operand 6) (half_operand 6) y))) (λ b fits. inl_back b g fits)
+  behind_laws None = mapped_laws compared_laws (λ c. inr c) spelled after_behind (λ c fits. (fits, refl, within_self (after_compared c))) (λ b fits. inr_back b fits)
+
+-- ---- which operators may stand there
+
+abbrev pub mix : Bool → Bool → Bool → Bool → Bool → List ℕ
+mix r l k c d = given r (given l (these s.Less) ++ (given k (these s.Greater) ++ (given c others ++ given d types)))
+
+abbrev pub rest_codes : List ℕ
+rest_codes = sign_code s.Greater ∷ others
+
+-- the three kinds have no code in common
+pub less_in : (r l k c d : Bool) → has (mix r l k c d) (sign_code s.Less) ≡ true → (r ≡ true) × (l ≡ true)
+less_in false l k c d h = absurd cc
+less_in true true k c d h = (refl, refl)
+less_in true false k c d h =
+    let sub : Within (given k (these s.Greater) ++ (given c others ++ given d types)) (rest_codes ++ types) = within_union (within_given k (λ e. inside {xs = these s.Greater} {ys = rest_codes ++ types} refl)) (within_union (within_given c (λ e. inside {xs = others} {ys = rest_codes ++ types} refl)) (within_given d (λ e. inside {xs = types} {ys = rest_codes ++ types} refl))) in
+    let bad : false ≡ true = sub.in_second (sign_code s.Less) h in absurd cc
+
+pub rest_in : (r l k c d : Bool) (m : ℕ) → has rest_codes m ≡ true → has (mix r l k c d) m ≡ true → (r ≡ true) × ((k ≡ true) ⊎ (c ≡ true))
+rest_in r l k c d m is h =
+    let a = given_has r (given l (these s.Less) ++ (given k (these s.Greater) ++ (given c others ++ given d types))) m h in (
+      a.0,
+      elim (has_cases (given l (these s.Less)) (given k (these s.Greater) ++ (given c others ++ given d types)) m a.1) [
+        | inl e ↦ let off : Apart (these s.Less) rest_codes = apart refl in absurd (off.never_both m (given_has l (these s.Less) m e).1 is)
+        | inr e ↦ elim (has_cases (given k (these s.Greater)) (given c others ++ given d types) m e) [
+          | inl e ↦ inl (given_has k (these s.Greater) m e).0
+          | inr e ↦ elim (has_cases (given c others) (given d types) m e) [
+            | inl e ↦ inr (given_has c others m e).0
+            | inr e ↦ let off : Apart types rest_codes = apart refl in absurd (off.never_both m (given_has d types m e).1 is)
+          ]
+        ]
+      ],
+    )
+
+pub types_in : (r l k c d : Bool) (m : ℕ) → has types m ≡ true → has (mix r l k c d) m ≡ true → (r ≡ true) × (d ≡ true)
+types_in r l k c d m is h =
+    let a = given_has r (given l (these s.Less) ++ (given k (these s.Greater) ++ (given c others ++ given d types))) m h in (
+      a.0,
+      elim (has_cases (given l (these s.Less)) (given k (these s.Greater) ++ (given c others ++ given d types)) m a.1) [
+        | inl e ↦ let off : Apart (these s.Less) types = apart refl in absurd (off.never_both m (given_has l (these s.Less) m e).1 is)
+        | inr e ↦ elim (has_cases (given k (these s.Greater)) (given c others ++ given d types) m e) [
+          | inl e ↦ let off : Apart (these s.Greater) types = apart refl in absurd (off.never_both m (given_has k (these s.Greater) m e).1 is)
+          | inr e ↦ elim (has_cases (given c others) (given d types) m e) [
+            | inl e ↦ let off : Apart others types = apart refl in absurd (off.never_both m (given_has c others m e).1 is)
+            | inr e ↦ (given_has d types m e).0
+          ]
+        ]
+      ],
+    )
+
+pub less_on : (r l k c d : Bool) → r ≡ true → l ≡ true → has (mix r l k c d) (sign_code s.Less) ≡ true
+less_on r l k c d e f = has_given r (given l (these s.Less) ++ (given k (these s.Greater) ++ (given c others ++ given d types))) (sign_code s.Less) e
+    (has_left (given l (these s.Less)) (given k (these s.Greater) ++ (given c others ++ given d types)) (sign_code s.Less) (has_given l (these s.Less) (sign_code s.Less) f refl))
+
+pub greater_on : (r l k c d : Bool) → r ≡ true → k ≡ true → has (mix r l k c d) (sign_code s.Greater) ≡ true
+greater_on r l k c d e f = has_given r (given l (these s.Less) ++ (given k (these s.Greater) ++ (given c others ++ given d types))) (sign_code s.Greater) e
+    (has_right (given l (these s.Less)) (given k (these s.Greater) ++ (given c others ++ given d types)) (sign_code s.Greater) (has_left (given k (these s.Greater)) (given c others ++ given d types) (sign_code s.Greater) (has_given k (these s.Greater) (sign_code s.Greater) f refl)))
+
+pub others_on : (r l k c d : Bool) (m : ℕ) → r ≡ true → c ≡ true → has others m ≡ true → has (mix r l k c d) m ≡ true
+others_on r l k c d m e f is = has_given r (given l (these s.Less) ++ (given k (these s.Greater) ++ (given c others ++ given d types))) m e
+    (has_right (given l (these s.Less)) (given k (these s.Greater) ++ (given c others ++ given d types)) m (has_right (given k (these s.Greater)) (given c others ++ given d types) m (has_left (given c others) (given d types) m (has_given c others m f is))))
+
+pub types_on : (r l k c d : Bool) (m : ℕ) → r ≡ true → d ≡ true → has types m ≡ true → has (mix r l k c d) m ≡ true
+types_on r l k c d m e f is = has_given r (given l (these s.Less) ++ (given k (these s.Greater) ++ (given c others ++ given d types))) m e
+    (has_right (given l (these s.Less)) (given k (these s.Greater) ++ (given c others ++ given d types)) m (has_right (given k (these s.Greater)) (given c others ++ given d types) m (has_right (given c others) (given d types) m (has_given d types m f is))))
