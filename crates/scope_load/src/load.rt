@@ -59,6 +59,7 @@ fn take_next<S, U: Units<S>>(
     ensures turn { Reaches (U.gives units.now from.old) root.now (state_of loaded.old)
         → Turns (U.gives units.now from.old) root.now result (state_of loaded.new) }
     ensures same { SameUnits (U.gives units.now from.old) (U.gives units.now from.new) }
+    ensures files { U.files units.now from.new ≡ U.files units.now from.old }
     ensures cause { Counts (load_failed result) (U.faults units.now from.old) (U.faults units.now from.new) }
     ensures units { OnOk result (length loaded.new.units.items ≡ length loaded.old.units.items + 1) }
     ensures room { OnOk result (length loaded.new.names.items ≤ most_units) }
@@ -103,6 +104,7 @@ pub fn load<S, U: Units<S>>(
 ) -> Result<Loaded, LoadFault>
     ensures answer { Answers (U.gives units.now from.old) root.now result }
     ensures same { SameUnits (U.gives units.now from.old) (U.gives units.now from.new) }
+    ensures files { U.files units.now from.new ≡ U.files units.now from.old }
     ensures cause { Counts (load_failed result) (U.faults units.now from.old) (U.faults units.now from.new) }
     ensures units { IfOk result (λ loaded. length loaded.units.items ≤ most_units) }
 {

@@ -1,6 +1,7 @@
 // Units by their names, and what reads them.
-ghost use Rattle.std.specs.Prelude.{◌≡◌, ℕ, ◌&&◌, bytes_eq, IfOk};
+ghost use Rattle.std.specs.Prelude.{◌≡◌, ℕ, ◌&&◌, bytes_eq, IfOk, Option};
 ghost use Rattle.dart_edge.specs.Fault.{Counts};
+ghost use Rattle.dart_edge.specs.Files.{Files};
 ghost use Rattle.scope_load.specs.Found.{FoundIs, found_is, take_failed, SameUnits};
 ghost use Rattle.scope_load.specs.declared.units.UnitName.{UnitName as Name};
 ghost use Rattle.scope_load.specs.Names.{same_name};
@@ -99,6 +100,9 @@ pub trait Units<S> {
     /// What is read holds this for the unit of this number and name, as far as it is told: where nothing is told, anything.
     ghost gives: { Self → S → ℕ → Name → FoundIs → Type 0 };
 
+    /// The files that are read from, if they are told.
+    ghost files: { Self → S → Option Files };
+
     /// How often reading has failed.
     ghost faults: { Self → S → ℕ };
 
@@ -106,5 +110,6 @@ pub trait Units<S> {
     fn take(&self, from: &mut S, number: u32, name: &UnitName) -> Result<Found, TakeFault>
         ensures content { IfOk result (λ found. gives self.now from.old number name.now (found_is found)) }
         ensures same { SameUnits (gives self.now from.old) (gives self.now from.new) }
+        ensures files { files self.now from.new ≡ files self.now from.old }
         ensures cause { Counts (take_failed result) (faults self.now from.old) (faults self.now from.new) };
 }

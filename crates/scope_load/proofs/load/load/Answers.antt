@@ -19,6 +19,7 @@ units-init g c =
       taken = omega (arith, units, length-map loaded.units.items unit);
       weight = omega (arith, weight);
       same = same_self (g.U.Units.gives c.args.units.now c.args.from.now);
+      files = refl;
       faults = refl;
       reached = subst (Reaches (g.U.Units.gives c.args.units.now c.args.from.now) c.args.root.now) (sym c.in_ok-loaded.ensures) begins;
     }
@@ -40,6 +41,7 @@ units-preserved g c =
       taken = omega (arith, c.in-Ok.ensures.units, c.units-test.true, c.len.ensures, c.len-in-units.ensures, c.units.invariant.room, c.units.loaded.units.ok, c.units.loaded.names.ok);
       weight = c.in-Ok.ensures.weight;
       same = same_on first now next c.units.invariant.same c.in-Ok.ensures.same;
+      files = c.in-Ok.ensures.files ∙ c.units.invariant.files;
       faults = c.in-Ok.ensures.cause ∙ c.units.invariant.faults;
       reached = reaches_too now first c.args.root.now (same_back first now c.units.invariant.same) (state_of c.take_next.new.loaded)
           (c.in-Ok.ensures.turn (reaches_too first now c.args.root.now c.units.invariant.same (state_of c.units.loaded) c.units.invariant.reached));
