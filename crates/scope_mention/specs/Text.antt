@@ -1,4 +1,4 @@
--- The text that a string without interpolation stands for, read byte by byte (ECMA-408, 16.5 Strings). proofs/TextLaws.antt says what this comes to for the elements of a string.
+-- The text that a string without interpolation stands for, read byte by byte (ECMA-408, 16.5 Strings).
 use Rattle.std.specs.Prelude.{ℕ, ◌+◌, ◌-◌, ◌*◌, ◌==◌, nat_lt, List, [], ◌∷◌, length, take, fold, Bool, true, false, Option, None, Some, if◌then◌else◌}
 use Rattle.std.specs.Str.{byte}
 use Rattle.dart_pieces.specs.Numbers.{digit}
