@@ -173,7 +173,7 @@ module _ {Rel : Meaning → Meaning → Type 0} (k : Logic Rel) where
       cases c = k.stays c
 
   module _ (s : Setting) (n : ℕ) (xs : List ℕ) (c c' u u' b b' : Meaning) (rc : Rel c c') (ru : Rel u u') (rb : Rel b b') where
-    going_on_rel : (next next' : Meaning) → Rel next next' → Rel (going_on s xs u next) (going_on s xs u' next')
+    pub going_on_rel : (next next' : Meaning) → Rel next next' → Rel (going_on s xs u next) (going_on s xs u' next')
     going_on_rel next next' r =
         answers k (λ _ st. on_answer (λ _. next) (u st)) (λ _ st. on_answer (λ _. next') (u' st))
         (λ _. answers k (λ _. next) (λ _. next') (λ _. r) u u' ru) (copies s xs) (copies s xs) (copies_rel s xs)
@@ -211,7 +211,7 @@ module _ {Rel : Meaning → Meaning → Type 0} (k : Logic Rel) where
       k.reads (λ n st. ends c (record st { activation = with_caught n.activation around })) _
       (λ n. k.activations (with_caught n.activation around) (λ st. ends c st) _ (k.stays c))
 
-  forgetting_rel : (around : Option Thrown) (d d' : Meaning) → Rel d d'
+  pub forgetting_rel : (around : Option Thrown) (d d' : Meaning) → Rel d d'
       → Rel (λ st. forgetting around (d st)) (λ st. forgetting around (d' st))
   forgetting_rel around d d' q =
       k.bind (forgetting around) (forgetting around) (record
@@ -249,7 +249,7 @@ module _ {Rel : Meaning → Meaning → Type 0} (k : Logic Rel) where
       (λ t. k.reads (λ n st. chosen (is_of s n.heap v t) here further st) (λ n st. chosen (is_of s n.heap v t) here' further' st)
       (λ n. chosen_rel k (is_of s n.heap v t) here here' further further' q r))
 
-  then_ends_rel : (c : Completion) (d d' : Meaning) → Rel d d' → Rel (λ st. then_ends c (d st)) (λ st. then_ends c (d' st))
+  pub then_ends_rel : (c : Completion) (d d' : Meaning) → Rel d d' → Rel (λ st. then_ends c (d st)) (λ st. then_ends c (d' st))
   then_ends_rel c d d' q = k.bind (then_ends c) (then_ends c) (clear (λ e st. refl)) (clear (λ e st. refl)) cases d d' q
     where
       cases : (e : Completion) → Rel (λ st. then_ends c (ends e st)) (λ st. then_ends c (ends e st))

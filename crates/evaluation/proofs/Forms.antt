@@ -68,7 +68,7 @@ module _ {Rel : Meaning → Meaning → Type 0} (k : Logic Rel) where
     before_rel true (c.var y) d d' q = l.answers k (λ _. d) (λ _. d') (λ _. q) _ _ (p.declare_rel k setting y Null)
     before_rel b u d d' q = q
 
-    unary_rel : (at : Place) (b : Bool) (u : Unary ℕ) (z : Value) → Rel (unary one at b u z) (unary two at b u z)
+    pub unary_rel : (at : Place) (b : Bool) (u : Unary ℕ) (z : Value) → Rel (unary one at b u z) (unary two at b u z)
     unary_rel at b (c.var y) z = declared_with_rel setting b y z
     unary_rel at b (c.write y) z = p.write_rel k setting y z
     unary_rel at b (c.static_write d) z = p.static_write_rel k d z
@@ -77,7 +77,7 @@ module _ {Rel : Meaning → Meaning → Type 0} (k : Logic Rel) where
     unary_rel at b (c.check n) z = v.site_rel k setting ra rb ca cb ia ib sites calls inits n z
     unary_rel at b c.throw z = l.throw_value_rel k setting.known at z
 
-    binary_rel : (at : Place) (u : Binary ℕ) (y z : Value) → Rel (binary one at u y z) (binary two at u y z)
+    pub binary_rel : (at : Place) (u : Binary ℕ) (y z : Value) → Rel (binary one at u y z) (binary two at u y z)
     binary_rel at c.equal y z = v.equal_rel k setting ra rb ca cb ia ib sites calls inits at y z
     binary_rel at (c.set name) y z = v.set_rel k setting ra rb ca cb ia ib sites calls inits at name y z
 
@@ -96,7 +96,7 @@ module _ {Rel : Meaning → Meaning → Type 0} (k : Logic Rel) where
         (λ n st. super_member two at role name g (superclass_of setting (class_of_source setting n.activation.source)) n.activation.this st)
         (λ n. super_member_rel at role name g (superclass_of setting (class_of_source setting n.activation.source)) n.activation.this)
 
-    row_rel : (at : Place) (job : Job ℕ) (names : List ℕ) (vs : List Value) → Rel (row one at job names vs) (row two at job names vs)
+    pub row_rel : (at : Place) (job : Job ℕ) (names : List ℕ) (vs : List Value) → Rel (row one at job names vs) (row two at job names vs)
     row_rel at (c.send name) names (u ∷ vs) = v.send_rel k setting ra rb ca cb ia ib sites calls inits at name u (given names vs)
     row_rel at (c.send name) names [] = k.stays (answer Null)
     row_rel at (c.super role name) names vs = super_rel at role name (given names vs)
@@ -146,7 +146,7 @@ module _ {Rel : Meaning → Meaning → Type 0} (k : Logic Rel) where
           l.answers k _ _ (switch_rel k setting at n _ _ (branches_rel cases)) _ _ (eval_rel operand)
       act_rel (c.labelled n body) at = p.labelled_rel k n _ _ (eval_rel body)
 
-      evals_rel : (b : Bool) (forms : Cores ℕ) → Rows k (evals b forms one) (evals b forms two)
+      pub evals_rel : (b : Bool) (forms : Cores ℕ) → Rows k (evals b forms one) (evals b forms two)
       evals_rel b c.no_cores = no_rows
       evals_rel b (c.core_more form more) =
           row_more _ _ _ _ (piece_rel b (constant_of (form_of form)) (eval form one) (eval form two) (eval_rel form)) (evals_rel b more)
@@ -155,7 +155,7 @@ module _ {Rel : Meaning → Meaning → Type 0} (k : Logic Rel) where
       part_rel c.missing u = k.stays (answer u)
       part_rel (c.given form) u = eval_rel form
 
-      handled_rel : (handlers : Handlers ℕ) (u : Value) (place : Place) →
+      pub handled_rel : (handlers : Handlers ℕ) (u : Value) (place : Place) →
           Rel (s.handled setting (clauses handlers one) u place) (s.handled setting (clauses handlers two) u place)
       handled_rel c.no_handlers u place = k.stays (throws u place)
       handled_rel (c.handler_more (c.handler condition exception trace body) more) u place =
