@@ -1,0 +1,3 @@
+-- means of proof
+pub mod Tree
+pub mod Index
