@@ -1,11 +1,12 @@
 -- A program that is read again from the text of the erased one.
-use Rattle.std.proofs.Common.{◌≡◌, refl, sym, ap, ◌∙◌, List, [], ◌∷◌, map}
+use Rattle.std.proofs.Common.{◌≡◌, refl, sym, ap, ◌∙◌, List, [], ◌∷◌, map, None}
 use Rattle.dart_tree.specs.Unit as u
 use Rattle.dart_erase.specs.UnitErased as erased
 use Rattle.dart_erase.proofs.Twice.{twice_unit}
 use Rattle.translation.specs.LinedUnit as lined
 use Rattle.translation.specs.Program as pg
 use Rattle.translation.proofs.Either.{decls_either}
+use Rattle.translation.proofs.Named.{none_again}
 use Rattle.translation.proofs.Whole.{alike_cores}
 
 both : (xs : List u.Decl) → map (λ (y : u.Decl). lined.decl (erased.decl y)) xs ≡ map lined.decl (map erased.decl xs)
@@ -38,5 +39,6 @@ bare_twice x = λ i. record (pg.bare x) { units = units_twice x.units i }
 bare_again : (x q : pg.Given) → pg.lines q ≡ pg.lines (pg.erased_given x) → pg.bare q ≡ pg.bare x
 bare_again x q e = bare_lines q ∙ ap pg.erased_given e ∙ sym (bare_lines (pg.erased_given x)) ∙ bare_twice x
 
-pub read_again : (x q : pg.Given) → pg.lines q ≡ pg.lines (pg.erased_given x) → pg.forgotten (pg.core q) ≡ pg.forgotten (pg.core x)
-read_again x q e = alike_cores x q (bare_again x q e)
+pub read_again : (x q : pg.Given) → pg.named_as_class x.units ≡ None → pg.lines q ≡ pg.lines (pg.erased_given x) →
+    pg.forgotten (pg.core q) ≡ pg.forgotten (pg.core x)
+read_again x q l e = alike_cores x q l (none_again x q e) (bare_again x q e)

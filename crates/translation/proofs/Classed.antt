@@ -2,13 +2,14 @@
 use Rattle.std.proofs.Common.{◌≡◌, refl, sym, ap, ◌∙◌, ℕ, zero, suc, ◌+◌, List, [], ◌∷◌, ◌++◌, map, length, drop, Option, None, Some, Bool, true, false, ◌||◌, if◌then◌else◌}
 use Rattle.std.proofs.lemmas.List.{map-append, length-map}
 use Rattle.std.specs.List.{list_any}
-use Rattle.std.specs.Prelude.{bytes_eq}
+use Rattle.std.specs.Prelude.{bytes_eq, cond}
 use Rattle.dart_base.specs.declared.place.Place.{Place}
 use Rattle.dart_tree.specs.declared.identifier.Identifier.{Identifier}
 use Rattle.dart_tree.specs.declared.identifier.DotName.{DotName}
 use Rattle.dart_tree.specs.declared.parameter.ThisDot.{ThisDot}
 use Rattle.dart_tree.specs.declared.declaration.Modifier.{Modifier}
 use Rattle.dart_tree.specs.declared.declaration.Modifier.TheVariants as mo
+use Rattle.dart_tree.specs.declared.declaration.ConstructorName.{ConstructorName}
 use Rattle.dart_tree.specs.Places.{place_of}
 use Rattle.dart_tree.specs.UnitView.{maybe}
 use Rattle.dart_tree.specs.Tree as t
@@ -23,7 +24,7 @@ use Rattle.translation.specs.Lined as lined
 use Rattle.translation.specs.LinedUnit as unit_lined
 use Rattle.dart_erase.specs.Erased as erased
 use Rattle.dart_erase.specs.UnitErased as unit_erased
-use Rattle.translation.specs.Surroundings.{Text, Core, name_in}
+use Rattle.translation.specs.Surroundings.{Text, Ty, Core, name_in}
 use Rattle.translation.specs.Walk.{Asked, unasked, Inside, State, Went, Walk, went, refused, on, bad_constructor, scoped}
 use Rattle.translation.specs.Firsts as first
 use Rattle.translation.specs.Types.{text_of, asked_of_kind, is_final, is_const, parameter_name}
@@ -101,16 +102,16 @@ abbrev option_field : Option cl.Field → Option cl.Field
 option_field None = None
 option_field (Some x) = Some (field x)
 
-named_if : (b : Bool) (x : cl.Field) (o : Option cl.Field) → (if b then Some (field x) else option_field o) ≡ option_field (if b then Some x else o)
+named_if : (b : Bool) (x : cl.Field) (o : Option cl.Field) → cond b (Some (field x)) (option_field o) ≡ option_field (cond b (Some x) o)
 named_if true x o = refl
 named_if false x o = refl
 
 named_kept : (xs : List cl.Field) (name : Text) → cl.field_named (map field xs) name ≡ option_field (cl.field_named xs name)
 named_kept [] name = refl
-named_kept (x ∷ xs) name = (λ i. if bytes_eq x.name.text name then Some (field x) else named_kept xs name i) ∙ named_if (bytes_eq x.name.text name) x (cl.field_named xs name)
+named_kept (x ∷ xs) name = (λ i. cond (bytes_eq x.name.text name) (Some (field x)) (named_kept xs name i)) ∙ named_if (bytes_eq x.name.text name) x (cl.field_named xs name)
 
 abbrev pub around : cl.Around → cl.Around
-around x = record { class = x.class; name = x.name; fields = map field x.fields; count = x.count }
+around x = record { class = x.class; arguments = x.arguments; name = x.name; fields = map field x.fields; count = x.count }
 
 pub field_write_at : (p' p : Place) (n : ℕ) (form : Core) → p' ≡ line p → cl.field_write p' n (k.core form) ≡ k.core (cl.field_write p n form)
 unfolding k.core
@@ -118,8 +119,8 @@ field_write_at p' p n form h = ap (λ (z : Place). cl.field_write z n (k.core fo
 
 write_field_goes : (p' p a' a : Place) (o : Option cl.Field) (name : Text) (form : Core) → p' ≡ line p → a' ≡ line a →
     Goes k.core (cl.write_field p' a' (option_field o) name (k.core form)) (cl.write_field p a o name form)
-write_field_goes p' p a' a None name form h l q = done _ _ (raised_behind p (form ∷ []) NoSuchMethodError name true) _ q
-    ((λ i. raised_behind (h i) (k.core form ∷ []) NoSuchMethodError name true) ∙ raised_kept p (form ∷ []) NoSuchMethodError name true) refl
+write_field_goes p' p a' a None name form h l q = done _ _ (raised_behind p (form ∷ []) NoSuchMethodError (name_in q.names.library name) true) _ q
+    ((λ i. raised_behind (h i) (k.core form ∷ []) NoSuchMethodError (name_in q.names.library name) true) ∙ raised_kept p (form ∷ []) NoSuchMethodError (name_in q.names.library name) true) refl
 write_field_goes p' p a' a (Some x) name form h l q = on_ends _ _ _ _ _ _ (checked_goes kind.FieldInit a' a _ x.asked form l refl q)
     (λ form q. done _ _ (cl.field_write p x.index form) _ q (field_write_at p' p x.index form h) refl)
 
@@ -145,9 +146,13 @@ value_goes r p' p n' name (t.given operator given) h d q = on_ends _ _ _ _ _ _ (
     write_named r p' p _ (first.first_of_expr given) n' name form h (expr_line given) d (cl.counted_since r.count q after))
     (λ form after. done _ _ (form ∷ []) _ after refl refl))
 
+field_numbered_goes : (o : Option (List Ty)) → Goes (λ n. n) (cl.field_numbered o) (cl.field_numbered o)
+field_numbered_goes None q = numbered_goes q
+field_numbered_goes (Some arguments) q = done _ _ 0 _ q refl refl
+
 field_value_goes : (r : cl.Around) (p' p : Place) (name : Identifier) (z : t.Value) → p' ≡ line p →
     Goes (map k.core) (cl.field_value (around r) p' (leaf.identifier name) (lined.value (erased.value z))) (cl.field_value r p name z)
-field_value_goes r p' p name z h q = on_ends _ _ _ _ _ _ (numbered_goes q) (λ n q. value_goes r p' p _ (text_of name) z h (text_same name) q)
+field_value_goes r p' p name z h q = on_ends _ _ _ _ _ _ (field_numbered_goes r.arguments q) (λ n q. value_goes r p' p _ (text_of name) z h (text_same name) q)
 
 more_values_goes : (r : cl.Around) (p' p : Place) (z : t.MoreVariables) → p' ≡ line p →
     Goes (map k.core) (cl.more_values (around r) p' (lined.more_variables (erased.more_variables z))) (cl.more_values r p z)
@@ -178,7 +183,7 @@ values_of_goes r true (u.accessor_member x) q = done _ _ [] _ q refl refl
 values_of_goes r false (u.operator_member x) q = done _ _ [] _ q refl refl
 values_of_goes r true (u.operator_member x) q = done _ _ [] _ q refl refl
 
-all_values_goes : (r : cl.Around) (xs : List u.Member) → Goes (map k.core) (cl.all_values (around r) (map bare_member xs)) (cl.all_values r xs)
+pub all_values_goes : (r : cl.Around) (xs : List u.Member) → Goes (map k.core) (cl.all_values (around r) (map bare_member xs)) (cl.all_values r xs)
 all_values_goes r [] q = done _ _ [] _ q refl refl
 all_values_goes r (x ∷ xs) q = on_ends _ _ _ _ _ _
     ((λ i. cl.values_of (around r) (static_same x.modifier i) (bare_kind x.kind) (k.state q)) ∙ values_of_goes r (cl.is_static x.modifier) x.kind q)
@@ -197,6 +202,7 @@ count_kept r xs q = ap cl.variables_after (all_values_goes r xs (record q { vari
 abbrev pub draft : cl.Draft → cl.Draft
 draft x = record {
   place = line x.place;
+  id = x.id;
   head = head x.head;
   parameters = x.parameters;
   has_values = x.has_values;
@@ -225,7 +231,7 @@ super_named place n o w' w h q = (λ i. cl.super_new (line place) (generative_sa
 super_goes : (place : Place) (n : Option ℕ) (o : Option DotName) (w' w : Walk Arguments) → Goes k.arguments w' w →
     Goes (map k.core) (cl.super_of (line place) n (maybe leaf.dot_name o) w') (cl.super_of place n o w)
 super_goes place None o w' w h q = stop _ _ (bad_constructor place) refl
-super_goes place (Some zero) None w' w h q = on_ends _ _ _ _ _ _ (h q) (λ all q. done _ _ [] _ q refl refl)
+super_goes place (Some zero) None w' w h q = on_ends _ _ _ _ _ _ (h q) (λ all q. done _ _ all.forms _ q refl refl)
 super_goes place (Some zero) (Some dot) w' w h q = super_named place zero (Some dot) w' w h q
 super_goes place (Some (suc n)) o w' w h q = super_named place (suc n) o w' w h q
 
@@ -331,17 +337,20 @@ own_block_goes (t.no_body semicolon) q = done _ _ [] _ q refl refl
 
 pub constructor_head_kept : (r : cl.Around) (n : ℕ) (i' id : Text) (z : t.Parameters) (q : State) → i' ≡ id →
     cl.constructor_head (around r) n i' (lined.parameters (erased.parameters z)) (k.state q) ≡ head (cl.constructor_head r n id z q)
-constructor_head_kept r n i' id z q h = λ i. record (head (cl.constructor_head r n id z q)) { name = name_in q.names.library (h i); signature = signature_loose q dynamic z i }
+constructor_head_kept r n i' id z q h = λ i. record (head (cl.constructor_head r n id z q)) { name = name_in q.names.library (cl.constructor_name r.name (h i)); signature = signature_loose q dynamic z i }
 
-pub constructed_goes : (r : cl.Around) (o' o : Place) (b : Bool) (h' h : f.Head) (q' q : Walk (List (p.Parameter Text))) (w' w : List (p.Parameter Text) → Walk (List Core)) → o' ≡ line o → h' ≡ head h → Goes (λ ps. ps) q' q →
-    ((ps : List (p.Parameter Text)) → Goes (map k.core) (w' ps) (w ps)) → Goes parts (cl.constructed (around r) o' b h' q' w') (cl.constructed r o b h q w)
-constructed_goes r o' o b h' h q' q w' w e l m n s = (λ i. cl.constructed (around r) (e i) b (l i) q' w' (k.state s)) ∙
+abbrev drafted_in : ConstructorName → Bool → f.Head → List (p.Parameter Text) → List Core → State → cl.Parts
+drafted_in name b h ps all s = cl.drafted (place_of name.class) (cl.id_of name.name) b h ps all s
+
+pub constructed_goes : (r : cl.Around) (name : ConstructorName) (b : Bool) (h' h : f.Head) (q' q : Walk (List (p.Parameter Text))) (w' w : List (p.Parameter Text) → Walk (List Core)) → h' ≡ head h → Goes (λ ps. ps) q' q →
+    ((ps : List (p.Parameter Text)) → Goes (map k.core) (w' ps) (w ps)) → Goes parts (cl.constructed (around r) (unit_lined.constructor_name name) b h' q' w') (cl.constructed r name b h q w)
+constructed_goes r name b h' h q' q w' w l m n s = (λ i. cl.constructed (around r) (unit_lined.constructor_name name) b (l i) q' w' (k.state s)) ∙
     outermost_goes parts (if b then r.count else 0)
-    (cl.entering (head h).inside (scoped (λ s. on (q' s) (λ ps s. on (w' ps s) (λ all s. went (cl.drafted (line o) b (head h) ps all s) s)))))
-    (cl.entering h.inside (scoped (λ s. on (q s) (λ ps s. on (w ps s) (λ all s. went (cl.drafted o b h ps all s) s)))))
+    (cl.entering (head h).inside (scoped (λ s. on (q' s) (λ ps s. on (w' ps s) (λ all s. went (drafted_in (unit_lined.constructor_name name) b (head h) ps all s) s)))))
+    (cl.entering h.inside (scoped (λ s. on (q s) (λ ps s. on (w ps s) (λ all s. went (drafted_in name b h ps all s) s)))))
     (entering_goes parts _ h.inside
-    (scoped (λ s. on (q' s) (λ ps s. on (w' ps s) (λ all s. went (cl.drafted (line o) b (head h) ps all s) s))))
-    (scoped (λ s. on (q s) (λ ps s. on (w ps s) (λ all s. went (cl.drafted o b h ps all s) s)))) refl
-    (scoped_goes parts (λ s. on (q' s) (λ ps s. on (w' ps s) (λ all s. went (cl.drafted (line o) b (head h) ps all s) s)))
-    (λ s. on (q s) (λ ps s. on (w ps s) (λ all s. went (cl.drafted o b h ps all s) s)))
-    (λ s. on_ends _ _ _ _ _ _ (m s) (λ ps s. on_ends _ _ _ _ _ _ (n ps s) (λ all s. done _ _ (cl.drafted o b h ps all s) _ s refl refl))))) s
+    (scoped (λ s. on (q' s) (λ ps s. on (w' ps s) (λ all s. went (drafted_in (unit_lined.constructor_name name) b (head h) ps all s) s))))
+    (scoped (λ s. on (q s) (λ ps s. on (w ps s) (λ all s. went (drafted_in name b h ps all s) s)))) refl
+    (scoped_goes parts (λ s. on (q' s) (λ ps s. on (w' ps s) (λ all s. went (drafted_in (unit_lined.constructor_name name) b (head h) ps all s) s)))
+    (λ s. on (q s) (λ ps s. on (w ps s) (λ all s. went (drafted_in name b h ps all s) s)))
+    (λ s. on_ends _ _ _ _ _ _ (m s) (λ ps s. on_ends _ _ _ _ _ _ (n ps s) (λ all s. done _ _ (drafted_in name b h ps all s) _ s (λ i. cl.drafted (place_line name.class i) (id_same name.name i) b (head h) ps (map k.core all) (k.state s)) refl))))) s

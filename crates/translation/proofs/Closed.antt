@@ -1,7 +1,7 @@
 -- Functions share the same variables once annotations and columns are forgotten.
 use Rattle.std.proofs.Common.{◌≡◌, refl, sym, ap, ◌∙◌, ℕ, List, [], ◌∷◌, ◌++◌, map, length, take, filter, nat_eq, Bool, false, ◌&&◌, ◌||◌, not}
 use Rattle.std.proofs.lemmas.List.{map-append, length-map, take-map}
-use Rattle.std.specs.List.{list_any}
+use Rattle.std.specs.List.{list_any, range_with_len}
 use Rattle.dart_base.specs.declared.place.Place.{Place}
 use Rattle.core_program.specs.Core as c
 use Rattle.core_program.specs.Program as p
@@ -180,10 +180,10 @@ declared_same : (x : ℕ) (ps : List (p.Parameter Text)) (body : c.Part Text) �
 declared_same x ps body = ap (λ (b : Bool). f.is_parameter x ps || b) (form_same (captured.declares x) (declares_same x) body)
 
 pub cells_same : (fs : List (Made (p.Function Text))) (n : ℕ) (ps : List (p.Parameter Text)) (body : c.Part Text) → f.cells (map k.function fs) n ps (k.part body) ≡ f.cells fs n ps body
-cells_same fs n ps body = λ i. filter (λ x. declared_same x ps body i && takes_same fs x body i) (f.below n)
+cells_same fs n ps body = λ i. filter (λ x. declared_same x ps body i && takes_same fs x body i) (range_with_len 0 n)
 
 pub captured_same : (fs : List (Made (p.Function Text))) (n : ℕ) (ps : List (p.Parameter Text)) (body : c.Part Text) → f.captures (map k.function fs) n ps (k.part body) ≡ f.captures fs n ps body
-captured_same fs n ps body = λ i. filter (λ x. not (declared_same x ps body i) && (form_same (captured.names x) (names_same x) body i || takes_same fs x body i)) (f.below n)
+captured_same fs n ps body = λ i. filter (λ x. not (declared_same x ps body i) && (form_same (captured.names x) (names_same x) body i || takes_same fs x body i)) (range_with_len 0 n)
 
 -- ---- a function
 

@@ -1,6 +1,7 @@
 -- Functions, accessors and variables of libraries and classes go alike once annotations and columns are forgotten.
 use Rattle.std.proofs.Common.{◌≡◌, refl, sym, ap, ◌∙◌, ℕ, ◌+◌, List, [], ◌∷◌, ◌++◌, map, length, take, drop, filter, Option, None, Some, Bool, true, false}
 use Rattle.std.proofs.lemmas.List.{map-append, length-map, take-map, drop-map}
+use Rattle.std.specs.List.{range_with_len}
 use Rattle.dart_base.specs.declared.place.Place.{Place}
 use Rattle.dart_base.specs.declared.feature.Feature.TheVariants.{External}
 use Rattle.dart_tree.specs.UnitView.{maybe}
@@ -85,8 +86,8 @@ parameter_count_same (t.the_parameters opening required brackets optional closin
 native_kept : (place : Place) (n : NativeId) (b : Bool) (x : t.Parameters) →
     c.given (d.native_form (line place) n b (d.parameter_count (lined.parameters (erased.parameters x)))) ≡ k.part (c.given (d.native_form place n b (d.parameter_count x)))
 native_kept place n b x = (λ i. c.given (d.native_form (line place) n b (parameter_count_same x i))) ∙
-    (λ i. c.given (row (line place) (c.native n) (by_place (this_first b place _ (map (variable place) (f.below (d.parameter_count x))) (variables_kept place (f.below (d.parameter_count x))) i)))) ∙
-    (λ i. c.given (row_kept place (c.native n) (by_place (d.with_this b place (map (variable place) (f.below (d.parameter_count x))))) i)) ∙
+    (λ i. c.given (row (line place) (c.native n) (by_place (this_first b place _ (map (variable place) (range_with_len 0 (d.parameter_count x))) (variables_kept place (range_with_len 0 (d.parameter_count x))) i)))) ∙
+    (λ i. c.given (row_kept place (c.native n) (by_place (d.with_this b place (map (variable place) (range_with_len 0 (d.parameter_count x))))) i)) ∙
     s.given_kept (d.native_form place n b (d.parameter_count x))
 
 pub native_body_goes : (o : Option Place) (n : Option NativeId) (b : Bool) (x : t.Parameters) (w' w : Walk (c.Part Text)) → Goes k.part w' w →
@@ -154,7 +155,7 @@ accessor_bare x = accessor_as_bare x.kind x
 
 static_kept : (name : Text) (b : Bool) (q : State) (init : c.Part Text) → d.static_made name b (k.state q) (k.part init) ≡ k.static_made (d.static_made name b q init)
 unfolding k.static_made k.part
-static_kept name b q init = λ i. record (k.static_made (d.static_made name b q init)) { cells = filter (λ x. takes_same q.functions x init i) (f.below q.variables) }
+static_kept name b q init = λ i. record (k.static_made (d.static_made name b q init)) { cells = filter (λ x. takes_same q.functions x init i) (range_with_len 0 q.variables) }
 
 with_static_goes : (n : ℕ) (name : Text) (b : Bool) (init : c.Part Text) → Goes (λ n. n) (d.with_static n name b (k.part init)) (d.with_static n name b init)
 with_static_goes n name b init q = done _ _ n _ (record q { statics = q.statics ++ record { number = n; made = d.static_made name b q init } ∷ [] }) refl

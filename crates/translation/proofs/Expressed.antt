@@ -25,9 +25,9 @@ use Rattle.translation.specs.Lined as lined
 use Rattle.dart_erase.specs.Erased as erased
 use Rattle.translation.specs.Surroundings.{Text, Ty, Core, Meaning}
 use Rattle.translation.specs.Surroundings as m
-use Rattle.translation.specs.Walk.{Asked, unasked, State, Walk, went, on, bad_word}
+use Rattle.translation.specs.Walk.{Asked, State, Walk, went, on, bad_word}
 use Rattle.translation.specs.Strings.{Part, units, shown}
-use Rattle.translation.specs.Types.{Word, word_of, option_word, Typed, well_formed, malformed, meaning_of, fitting}
+use Rattle.translation.specs.Types.{Word, word_of, option_word, tys, Typed, well_formed, malformed, meaning_of, fitting}
 use Rattle.translation.specs.References as r
 use Rattle.translation.specs.References.{Arguments, by_place, Reference, evaluated, named, member, item, super_member, super_item}
 use Rattle.translation.specs.Expressions as e
@@ -381,9 +381,9 @@ missing_same : (o : Option Word) (name : Text) (s : State) → e.missing_name (o
 missing_same None name s = refl
 missing_same (Some id) name s = refl
 
-bound_if_goes : (b : Bool) (p' p : Place) (form : Core) → p' ≡ line p → Goes k.core (e.bound_if b p' (k.core form)) (e.bound_if b p form)
-bound_if_goes false p' p form h s = done _ _ form _ s refl refl
-bound_if_goes true p' p form h s = checked_goes kind.Bound p' p _ unasked form h refl s
+bound_if_goes : (b : Bool) (p' p : Place) (of : Ty) (form : Core) → p' ≡ line p → Goes k.core (e.bound_if b p' of (k.core form)) (e.bound_if b p of form)
+bound_if_goes false p' p of form h s = done _ _ form _ s refl refl
+bound_if_goes true p' p of form h s = checked_goes kind.Bound p' p _ (record { of = Some of; annotated = false }) form h refl s
 
 new_kept : (p' p : Place) (n q : ℕ) (ts : List Ty) (all : Arguments) → p' ≡ line p →
     c.at p' (c.new n q ts (c.cores (map k.core all.forms)) all.names) ≡ k.core (c.at p (c.new n q ts (c.cores all.forms) all.names))
@@ -391,8 +391,8 @@ unfolding k.core k.cores
 new_kept p' p n q ts all h = λ i. c.at (h i) (c.new n q ts (cores_map all.forms i) all.names)
 
 new_goes : (p' p : Place) (n q : ℕ) (ts : List Ty) (all : Arguments) → p' ≡ line p → Goes k.core (e.new_form p' n q ts (k.arguments all)) (e.new_form p n q ts all)
-new_goes p' p n q ts all h s = (λ i. e.bound_if (s.tables.is_bounded n) p' (new_kept p' p n q ts all h i) (k.state s)) ∙
-    bound_if_goes (s.tables.is_bounded n) p' p (c.at p (c.new n q ts (c.cores all.forms) all.names)) h s
+new_goes p' p n q ts all h s = (λ i. e.bound_if (s.tables.is_bounded n) p' (class n (tys ts)) (new_kept p' p n q ts all h i) (k.state s)) ∙
+    bound_if_goes (s.tables.is_bounded n) p' p (class n (tys ts)) (c.at p (c.new n q ts (c.cores all.forms) all.names)) h s
 
 created_by_goes : (made : m.Made) (p' p : Place) (n : ℕ) (ts : List Ty) (missing : Text) (all : Arguments) → p' ≡ line p →
     Goes k.core (e.created_by made p' n ts missing (k.arguments all)) (e.created_by made p n ts missing all)

@@ -1,14 +1,19 @@
 -- Small facts of translation.
-use Rattle.std.proofs.Common.{◌≡◌, refl, [], ◌∷◌, None, true, false}
+use Rattle.std.proofs.Common.{◌≡◌, refl, ℕ, List, [], ◌∷◌, Some, None, true, false}
 use Rattle.core_program.specs.Core as c
 use Rattle.core_program.specs.declared.form.Way.TheVariants as way
 use Rattle.dart_base.specs.declared.place.Place.{Place}
+use Rattle.dart_ir.specs.Ty.{class}
 use Rattle.dart_ir.specs.declared.kind.SiteKind.TheVariants as kind
 use Rattle.dart_tree.specs.Tree as t
 use Rattle.dart_tree.specs.declared.expression.Atom.TheVariants as a
 use Rattle.dart_tree.specs.declared.statement.Jump.TheVariants as j
+use Rattle.translation.specs.Surroundings.{Ty, Core}
+use Rattle.translation.specs.Types.{tys}
+use Rattle.translation.specs.Classes.{super_of}
+use Rattle.translation.specs.Expressions.{new_form}
 use Rattle.translation.specs.Productions.{expr, stmt}
-use Rattle.translation.specs.References.{truth}
+use Rattle.translation.specs.References.{truth, by_place}
 use Rattle.translation.specs.Walk.{State, went, refused, bad_label, bad_word, on, leaving}
 
 pub break_needs_a_target : (st : State) (word semicolon : Place) →
@@ -35,3 +40,18 @@ pub while_is_a_loop : (st : State) (word opening test closing jump semicolon : P
     })
 unfolding on leaving
 while_is_a_loop st word opening test closing jump semicolon = refl
+
+pub bounds_ask_for_the_type : (st : State) (place : Place) (n constructor : ℕ) (types : List Ty) →
+    new_form place n constructor types (by_place []) (record st { tables = record st.tables { is_bounded = λ k. true }; sites = [] }) ≡
+    went (c.at place (c.unary (c.check 0) (c.at place (c.new n constructor types c.no_cores []))))
+    (record st {
+      tables = record st.tables { is_bounded = λ k. true };
+      sites = record { place = place; kind = kind.Bound; required = Some (class n (tys types)); annotated = false } ∷ [];
+    })
+unfolding on
+bounds_ask_for_the_type st place n constructor types = refl
+
+pub object_is_handed_arguments : (st : State) (word : Place) (first second : Core) →
+    super_of word (Some 0) None (λ st. went (by_place (first ∷ second ∷ [])) st) st ≡ went (first ∷ second ∷ []) st
+unfolding on
+object_is_handed_arguments st word first second = refl

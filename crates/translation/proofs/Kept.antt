@@ -8,7 +8,7 @@ use Rattle.core_program.specs.Stripped as stripped
 use Rattle.translation.specs.Surroundings.{Text, Core, Tables}
 use Rattle.translation.specs.Walk.{Reason, left_out, not_constant, bad_label, bad_constructor, bad_switch, bad_word, too_large, Asked, Entry, Inside, Made, State, Went, Walk, went, refused}
 use Rattle.translation.specs.Types.{Word}
-use Rattle.translation.specs.References.{Arguments, Bound, local, outer, Reference, evaluated, named, member, item, super_member, super_item}
+use Rattle.translation.specs.References.{Arguments, Bound, local, outer, alias_behind, Reference, evaluated, named, member, item, super_member, super_item}
 pub use Rattle.core_program.specs.Alike.{line}
 
 unfoldable pub core : Core → Core
@@ -47,6 +47,7 @@ arguments x = record { forms = map core x.forms; names = x.names }
 abbrev pub bound : Bound → Bound
 bound (local e) = local (entry e)
 bound (outer of_this meaning) = outer of_this meaning
+bound (alias_behind at) = alias_behind (line at)
 
 abbrev pub reference : Reference → Reference
 reference (evaluated form) = evaluated (core form)

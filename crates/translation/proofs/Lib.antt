@@ -11,6 +11,9 @@ mod Bared
 mod Declared
 mod Classed
 mod Members
+mod Bodied
+mod Added
+mod Named
 mod Whole
 mod Either
 mod Again

@@ -2,6 +2,7 @@
 use Rattle.std.proofs.Common.{◌≡◌, refl, sym, ap, ◌∙◌, ℕ, zero, suc, List, [], ◌∷◌, ◌++◌, map, length, nat_eq, Option, None, Some, Bool, true, false, if◌then◌else◌}
 use Rattle.std.proofs.lemmas.List.{map-append, length-map}
 use Rattle.std.specs.Prelude.{bytes_eq}
+use Rattle.std.specs.Option.{is_some}
 use Rattle.dart_base.specs.declared.place.Place.{Place}
 use Rattle.dart_base.specs.declared.feature.Feature.TheVariants.{Redirects}
 use Rattle.dart_tree.specs.declared.identifier.DotName.{DotName}
@@ -53,10 +54,10 @@ forms_goes r given inits implied z ps q = on_ends _ _ _ _ _ _ (all_formals_goes 
 generative_goes : (r : cl.Around) (name : ConstructorName) (given : t.Parameters) (inits : Option u.Initializers) (z : t.Body) (n : ℕ) →
     Goes parts (cl.generative_constructor (around r) (unit_lined.constructor_name name) (lined.parameters (erased.parameters given)) (bare_inits inits) (lined.body (erased.body z)) n) (cl.generative_constructor r name given inits z n)
 generative_goes r name given inits z n q = on_ends _ _ _ _ _ _ (implicit_goes _ (cl.writes_super inits) _ (place_of name.class) (q.tables.superclass r.class) (writes_super_same inits) (place_line name.class) q)
-    (λ implied q. constructed_goes r _ (place_of name.class) true _ (cl.constructor_head r n (cl.id_of name.name) given (d.standing_in (cl.without_instance r) q))
+    (λ implied q. constructed_goes r name true _ (cl.constructor_head r n (cl.id_of name.name) given (d.standing_in (cl.without_instance r) q))
     (f.bind_parameters true (d.standing_in (cl.without_instance r) (k.state q)) (lined.parameters (erased.parameters given))) (f.bind_parameters true (d.standing_in (cl.without_instance r) q) given)
     (cl.generative_forms (around r) (lined.parameters (erased.parameters given)) (bare_inits inits) (map k.core implied) (lined.body (erased.body z))) (cl.generative_forms r given inits implied z)
-    (place_line name.class) (constructor_head_kept r n _ (cl.id_of name.name) given (d.standing_in (cl.without_instance r) q) (id_same name.name))
+    (constructor_head_kept r n _ (cl.id_of name.name) given (d.standing_in (cl.without_instance r) q) (id_same name.name))
     (parameters_goes true (d.standing_in (cl.without_instance r) q) given) (forms_goes r given inits implied z) q)
 
 redirects_same : (x : u.Constructor) (id : Text) (later : Option Text) → cl.redirects (unit_lined.constructor (unit_erased.constructor x)) id later ≡ cl.redirects x id later
@@ -95,18 +96,18 @@ redirected_goes b' b place o' o w' w h l n q = (λ i. cl.redirected_if (h i) (li
 redirecting_goes : (r : cl.Around) (xs : List u.Member) (name : ConstructorName) (given : t.Parameters) (this : Place) (other : Option DotName) (handed : t.Arguments) (n : ℕ) →
     Goes parts (cl.redirecting_constructor (around r) (map bare_member xs) (unit_lined.constructor_name name) (lined.parameters (erased.parameters given)) (line this) (maybe leaf.dot_name other) (lined.arguments (erased.arguments handed)) n)
     (cl.redirecting_constructor r xs name given this other handed n)
-redirecting_goes r xs name given this other handed n q = constructed_goes r _ (place_of name.class) false _ (cl.constructor_head r n (cl.id_of name.name) given (d.standing_in (cl.without_instance r) q))
+redirecting_goes r xs name given this other handed n q = constructed_goes r name false _ (cl.constructor_head r n (cl.id_of name.name) given (d.standing_in (cl.without_instance r) q))
     (f.bind_parameters false (d.standing_in (cl.without_instance r) (k.state q)) (lined.parameters (erased.parameters given))) (f.bind_parameters false (d.standing_in (cl.without_instance r) q) given)
     (λ ps q. cl.redirected_if (cl.is_circular (map bare_member xs) (cl.id_of (maybe leaf.dot_name name.name))) (line this) (cl.generative r.class (maybe leaf.dot_name other) q) (pr.arguments (lined.arguments (erased.arguments handed))) q)
     (λ ps q. cl.redirected_if (cl.is_circular xs (cl.id_of name.name)) this (cl.generative r.class other q) (pr.arguments handed) q)
-    (place_line name.class) (constructor_head_kept r n _ (cl.id_of name.name) given (d.standing_in (cl.without_instance r) q) (id_same name.name))
+    (constructor_head_kept r n _ (cl.id_of name.name) given (d.standing_in (cl.without_instance r) q) (id_same name.name))
     (parameters_goes false (d.standing_in (cl.without_instance r) q) given)
     (λ ps q. redirected_goes _ (cl.is_circular xs (cl.id_of name.name)) this _ (cl.generative r.class other q) (pr.arguments (lined.arguments (erased.arguments handed))) (pr.arguments handed)
     (circular_same xs _ (cl.id_of name.name) (id_same name.name)) (generative_same r.class other q) (law_arguments handed) q) q
 
 factory_head_kept : (r : cl.Around) (n : ℕ) (i' id : Text) (z : t.Parameters) (q : State) → i' ≡ id →
     cl.factory_head (around r) n i' (lined.parameters (erased.parameters z)) (k.state q) ≡ head (cl.factory_head r n id z q)
-factory_head_kept r n i' id z q h = λ i. record (head (cl.factory_head r n id z q)) { name = name_in q.names.library (h i); signature = signature_loose q dynamic z i }
+factory_head_kept r n i' id z q h = λ i. record (head (cl.factory_head r n id z q)) { name = name_in q.names.library (cl.constructor_name r.name (h i)); signature = signature_loose q dynamic z i }
 
 factory_goes : (r : cl.Around) (external : Option Place) (name : ConstructorName) (given : t.Parameters) (z : t.Body) (n : ℕ) →
     Goes parts (cl.factory (around r) (maybe line external) (unit_lined.constructor_name name) (lined.parameters (erased.parameters given)) (lined.body (erased.body z)) n) (cl.factory r external name given z n)
@@ -125,23 +126,22 @@ factory_goes r external name given z n q = on_ends _ _ _ _ _ _ (unless_external_
     (native_body_goes external (q.tables.native n) false given (pr.body (lined.body (erased.body z))) (pr.body z) (law_body z)))) q)
     (λ n q. done _ _ cl.no_parts _ q refl refl)
 
-first_factory_line : (o : Option Place) (word : Place) → cl.first_of_factory (maybe line o) (line word) ≡ line (cl.first_of_factory o word)
-first_factory_line None word = refl
-first_factory_line (Some place) word = refl
+no_redirects_goes : (word : Place) → Goes parts (cl.no_redirects (line word)) (cl.no_redirects word)
+no_redirects_goes word q = stop _ _ (left_out word Redirects) refl
 
-given_same : (o : Option Place) → cl.is_given (maybe line o) ≡ cl.is_given o
+given_same : (o : Option Place) → is_some (maybe line o) ≡ is_some o
 given_same None = refl
 given_same (Some place) = refl
 
 constructor_goes : (r : cl.Around) (xs : List u.Member) (x : u.Constructor) (n : ℕ) →
     Goes parts (cl.constructor (around r) (map bare_member xs) (unit_lined.constructor (unit_erased.constructor x)) n) (cl.constructor r xs x n)
 constructor_goes r xs (u.generative constant name given inits body) n q =
-    (λ i. cl.generative_constructor (around r) (unit_lined.constructor_name name) (lined.parameters (erased.parameters given)) (bare_inits inits) (lined.body (erased.body body)) n (meeting_same _ (cl.is_given constant) q (given_same constant) i)) ∙
-    generative_goes r name given inits body n (e.meeting_constant (cl.is_given constant) q)
+    (λ i. cl.generative_constructor (around r) (unit_lined.constructor_name name) (lined.parameters (erased.parameters given)) (bare_inits inits) (lined.body (erased.body body)) n (meeting_same _ (is_some constant) q (given_same constant) i)) ∙
+    generative_goes r name given inits body n (e.meeting_constant (is_some constant) q)
 constructor_goes r xs (u.redirecting name given colon this other handed semicolon) n q = redirecting_goes r xs name given this other handed n q
 constructor_goes r xs (u.factory external word name given body) n q = factory_goes r external name given body n q
 constructor_goes r xs (u.redirecting_factory external word name given equals target other semicolon) n q =
-    stop _ _ (left_out (cl.first_of_factory external word) Redirects) (ap (λ (z : Place). left_out z Redirects) (first_factory_line external word))
+    unless_external_goes parts external (q.tables.native n) (cl.no_redirects (line word)) (cl.no_redirects word) (no_redirects_goes word) q
 
 -- ---- members
 
@@ -154,17 +154,11 @@ external_line mo.Omitted o = refl
 external_line (mo.Static place) o = refl
 external_line (mo.ExternalStatic first second) o = refl
 
-named_as_goes : (b : Bool) (p' p : Place) (w' w : Walk ℕ) → p' ≡ line p → Goes (λ n. n) w' w → Goes (λ n. n) (cl.named_as b p' w') (cl.named_as b p w)
-named_as_goes true p' p w' w h n q = stop _ _ (bad_constructor p) (ap bad_constructor h)
-named_as_goes false p' p w' w h n q = n q
-
 method_bare : (r : cl.Around) (x : Modifier) (z : d.Declared) → Goes parts (cl.method (around r) (unit_lined.modifier x) (bare z)) (cl.method r x z)
-method_bare r x z q = on_ends _ _ _ _ _ _ (named_as_goes (bytes_eq z.name.text r.name) _ z.name.place
-    (d.declared_function (cl.standing_of (around r) (cl.is_static (unit_lined.modifier x))) (record (bare z) { external = cl.external_of (unit_lined.modifier x) (bare z).external }))
-    (d.declared_function (cl.standing_of r (cl.is_static x)) (record z { external = cl.external_of x z.external })) refl
-    (λ q. (λ i. d.declared_function (((λ j. cl.standing_of (around r) (static_same x j)) ∙ standing_same r (cl.is_static x)) i) (record (bare z) { external = cl.external_of (unit_lined.modifier x) (bare z).external }) (k.state q)) ∙
+method_bare r x z q = on_ends _ _ _ _ _ _
+    ((λ i. d.declared_function (((λ j. cl.standing_of (around r) (static_same x j)) ∙ standing_same r (cl.is_static x)) i) (record (bare z) { external = cl.external_of (unit_lined.modifier x) (bare z).external }) (k.state q)) ∙
     declared_goes (cl.standing_of r (cl.is_static x)) _ (record z { external = cl.external_of x z.external })
-    (λ i. record (bare z) { external = external_line x z.external i }) q) q)
+    (λ i. record (bare z) { external = external_line x z.external i }) q)
     (λ n q. done _ _ cl.no_parts _ q refl refl)
 
 method_goes : (r : cl.Around) (x : Modifier) (z' z : d.Declared) → z' ≡ bare z → Goes parts (cl.method (around r) (unit_lined.modifier x) z') (cl.method r x z)

@@ -8,14 +8,13 @@ use Rattle.dart_ir.specs.declared.class.Role.TheVariants as role
 use Rattle.dart_ir.specs.declared.kind.SiteKind.TheVariants as kind
 use Rattle.dart_ir.specs.declared.kind.ThrowKind.{ThrowKind}
 use Rattle.dart_ir.specs.declared.kind.ThrowKind.TheVariants.{NoSuchMethodError, MalformedTypeError}
-use Rattle.dart_ir.specs.Ty.{parameter}
 use Rattle.core_program.specs.Core as c
 use Rattle.translation.specs.Surroundings.{Text, Ty, Core, Meaning}
 use Rattle.translation.specs.Surroundings as m
 use Rattle.translation.specs.Walk.{Asked, unasked, Entry, State, Walk, went, on, left_out, entry_of}
-use Rattle.translation.specs.Types.{Word}
+use Rattle.translation.specs.Types.{Word, argument_in}
 use Rattle.translation.specs.References as r
-use Rattle.translation.specs.References.{Arguments, by_place, Bound, local, outer, Reference, evaluated, named, member, item, super_member, super_item}
+use Rattle.translation.specs.References.{Arguments, by_place, Bound, local, outer, alias_behind, Reference, evaluated, named, member, item, super_member, super_item}
 use Rattle.translation.proofs.Kept as k
 use Rattle.translation.proofs.Kept.{line, Goes, ends}
 use Rattle.translation.proofs.Ends.{on_ends, done, stop, checked_goes, fresh_goes, option_entry, entry_same, cores_map}
@@ -68,7 +67,7 @@ unknown_kept : (b : Bool) (place : Place) (name : Text) → r.read_unknown b (li
 unfolding k.core
 unknown_kept b place name = or_kept b (c.at place (c.unary (c.get name) (r.this place))) (r.raise place NoSuchMethodError name false)
 
-parameter_kept : (place : Place) (o : Option ℕ) (n : ℕ) (name : Text) → r.parameter_value (line place) o n name ≡ k.core (r.parameter_value place o n name)
+parameter_kept : (place : Place) (o : Option ℕ) (n : Ty) (name : Text) → r.parameter_value (line place) o n name ≡ k.core (r.parameter_value place o n name)
 unfolding k.core
 parameter_kept place None n name = refl
 parameter_kept place (Some around) n name = refl
@@ -85,7 +84,7 @@ read_outer_goes of_this place name (m.variable n is_final) s = done _ _ _ _ s re
 read_outer_goes of_this place name (m.accessors getter setter) s = done _ _ (r.read_getter place getter name) _ s (getter_kept place getter name) refl
 read_outer_goes of_this place name (m.class n) s = done _ _ (r.class_value place n s) _ s refl refl
 read_outer_goes of_this place name (m.alias n) s = stop _ _ (left_out place FunctionTypes) refl
-read_outer_goes of_this place name (m.type_parameter n) s = done _ _ (r.parameter_value place s.inside.class n name) _ s (parameter_kept place s.inside.class n name) refl
+read_outer_goes of_this place name (m.type_parameter n) s = done _ _ (r.parameter_value place s.inside.class (argument_in s.inside.arguments n) name) _ s (parameter_kept place s.inside.class (argument_in s.inside.arguments n) name) refl
 read_outer_goes of_this place name m.prefix s = done _ _ (r.raise place NoSuchMethodError name false) _ s refl refl
 read_outer_goes of_this place name m.member s = done _ _ (r.read_unknown of_this place name) _ s (unknown_kept of_this place name) refl
 read_outer_goes of_this place name m.ambiguous s = done _ _ (r.read_unknown of_this place name) _ s (unknown_kept of_this place name) refl
@@ -95,6 +94,7 @@ read_bound_goes : (w : Word) (b : Bound) → Goes k.core (r.read_bound (k.word w
 unfolding k.core
 read_bound_goes w (local e) s = done _ _ (r.variable w.place e.variable) _ s refl refl
 read_bound_goes w (outer of_this meaning) s = read_outer_goes of_this w.place (r.own_name w s) meaning s
+read_bound_goes w (alias_behind at) s = stop _ _ (left_out at FunctionTypes) refl
 
 read_ends : (place : Place) (x : Reference) → Goes k.core (r.read (line place) (k.reference x)) (r.read place x)
 unfolding k.core
@@ -114,10 +114,10 @@ call_getter_kept : (place : Place) (o : Option ℕ) (name : Text) (all : Argumen
 call_getter_kept place None name all = raised_kept place all.forms NoSuchMethodError name false
 call_getter_kept place (Some n) name all = (λ i. r.apply (line place) (row_kept place (c.call n) (by_place []) i) (k.arguments all)) ∙ apply_kept place (r.call place n (by_place [])) all
 
-call_parameter_kept : (place : Place) (o : Option ℕ) (n : ℕ) (name : Text) (all : Arguments) → r.call_parameter (line place) o n name (k.arguments all) ≡ k.core (r.call_parameter place o n name all)
+call_parameter_kept : (place : Place) (o : Option ℕ) (n : Ty) (name : Text) (all : Arguments) → r.call_parameter (line place) o n name (k.arguments all) ≡ k.core (r.call_parameter place o n name all)
 unfolding k.core
 call_parameter_kept place None n name all = raised_kept place all.forms MalformedTypeError name false
-call_parameter_kept place (Some around) n name all = apply_kept place (c.at place (c.type_literal (parameter n))) all
+call_parameter_kept place (Some around) n name all = apply_kept place (c.at place (c.type_literal n)) all
 
 call_unknown_kept : (b : Bool) (place : Place) (name : Text) (all : Arguments) → r.call_unknown b (line place) name (k.arguments all) ≡ k.core (r.call_unknown b place name all)
 unfolding k.core
@@ -131,7 +131,7 @@ call_outer_goes of_this place name (m.variable n is_final) all s = done _ _ (r.a
 call_outer_goes of_this place name (m.accessors getter setter) all s = done _ _ (r.call_getter place getter name all) _ s (call_getter_kept place getter name all) refl
 call_outer_goes of_this place name (m.class n) all s = done _ _ (r.apply place (r.class_value place n s) all) _ s (apply_kept place (r.class_value place n s) all) refl
 call_outer_goes of_this place name (m.alias n) all s = stop _ _ (left_out place FunctionTypes) refl
-call_outer_goes of_this place name (m.type_parameter n) all s = done _ _ (r.call_parameter place s.inside.class n name all) _ s (call_parameter_kept place s.inside.class n name all) refl
+call_outer_goes of_this place name (m.type_parameter n) all s = done _ _ (r.call_parameter place s.inside.class (argument_in s.inside.arguments n) name all) _ s (call_parameter_kept place s.inside.class (argument_in s.inside.arguments n) name all) refl
 call_outer_goes of_this place name m.prefix all s = done _ _ (r.raised_behind place all.forms NoSuchMethodError name false) _ s (raised_kept place all.forms NoSuchMethodError name false) refl
 call_outer_goes of_this place name m.member all s = done _ _ (r.call_unknown of_this place name all) _ s (call_unknown_kept of_this place name all) refl
 call_outer_goes of_this place name m.ambiguous all s = done _ _ (r.call_unknown of_this place name all) _ s (call_unknown_kept of_this place name all) refl
@@ -141,6 +141,7 @@ call_bound_goes : (w : Word) (b : Bound) (all : Arguments) → Goes k.core (r.ca
 unfolding k.core
 call_bound_goes w (local e) all s = done _ _ (r.apply w.place (r.variable w.place e.variable) all) _ s (apply_kept w.place (r.variable w.place e.variable) all) refl
 call_bound_goes w (outer of_this meaning) all s = call_outer_goes of_this w.place (r.own_name w s) meaning all s
+call_bound_goes w (alias_behind at) all s = stop _ _ (left_out at FunctionTypes) refl
 
 called_ends : (place : Place) (x : Reference) (all : Arguments) → Goes k.core (r.called (line place) (k.reference x) (k.arguments all)) (r.called place x all)
 called_ends place (evaluated form) all s = done _ _ (r.apply place form all) _ s (apply_kept place form all) refl
@@ -158,6 +159,7 @@ called_goes p' p x all e s = (λ i. r.called (e i) (k.reference x) (k.arguments 
 no_alias_goes : (w : Word) (b : Bound) (x : Reference) → Goes k.reference (r.no_alias_at (k.word w) (k.bound b) (k.reference x)) (r.no_alias_at w b x)
 no_alias_goes w (local e) x s = done _ _ x _ s refl refl
 no_alias_goes w (outer of_this (m.alias n)) x s = stop _ _ (left_out w.place FunctionTypes) refl
+no_alias_goes w (alias_behind at) x s = stop _ _ (left_out at FunctionTypes) refl
 no_alias_goes w (outer of_this (m.class n)) x s = done _ _ x _ s refl refl
 no_alias_goes w (outer of_this (m.type_parameter n)) x s = done _ _ x _ s refl refl
 no_alias_goes w (outer of_this (m.function n)) x s = done _ _ x _ s refl refl
@@ -181,10 +183,24 @@ read_first : (place : Place) (w f : Word) (b : Bound) (s : State) →
     ends k.reference (on (r.read_bound f b s) (λ form st. went (member form (r.own_name w st)) st))
 read_first place w f b s = on_ends _ _ _ _ _ _ (read_bound_goes f b s) (λ form s. done _ _ (member form (r.own_name w s)) _ s refl refl)
 
+behind_kept : (at : Place) (meaning : Meaning) → r.behind (line at) meaning ≡ k.bound (r.behind at meaning)
+behind_kept at (m.function n) = refl
+behind_kept at (m.variable n is_final) = refl
+behind_kept at (m.accessors getter setter) = refl
+behind_kept at (m.class n) = refl
+behind_kept at (m.alias n) = refl
+behind_kept at (m.type_parameter n) = refl
+behind_kept at m.member = refl
+behind_kept at m.prefix = refl
+behind_kept at m.ambiguous = refl
+behind_kept at m.unknown = refl
+
 behind_goes : (place : Place) (w f : Word) (b : Bound) → Goes k.reference (r.member_behind (line place) (k.word w) (k.word f) (k.bound b)) (r.member_behind place w f b)
 behind_goes place w f (local e) s = read_first place w f (local e) s
 behind_goes place w f (outer of_this (m.class n)) s = done _ _ (named (record { place = place; text = w.text }) (outer false (s.tables.static n (r.own_name w s)))) _ s refl refl
-behind_goes place w f (outer of_this m.prefix) s = done _ _ (named (record { place = place; text = w.text }) (outer false (s.names.prefixed f.text w.text))) _ s refl refl
+behind_goes place w f (outer of_this m.prefix) s = done _ _ (named (record { place = place; text = w.text }) (r.behind w.place (s.names.prefixed f.text w.text))) _ s
+    (ap (named (record { place = line place; text = w.text })) (behind_kept w.place (s.names.prefixed f.text w.text))) refl
+behind_goes place w f (alias_behind at) s = read_first place w f (alias_behind at) s
 behind_goes place w f (outer of_this (m.alias n)) s = read_first place w f (outer of_this (m.alias n)) s
 behind_goes place w f (outer of_this (m.type_parameter n)) s = read_first place w f (outer of_this (m.type_parameter n)) s
 behind_goes place w f (outer of_this (m.function n)) s = read_first place w f (outer of_this (m.function n)) s
@@ -255,6 +271,7 @@ write_outer_goes of_this place at name m.unknown form s = done _ _ (r.write_unkn
 write_bound_goes : (place at : Place) (w : Word) (b : Bound) (form : Core) → Goes k.core (r.write_bound (line place) (line at) (k.word w) (k.bound b) (k.core form)) (r.write_bound place at w b form)
 write_bound_goes place at w (local e) form s = write_if_goes e.is_final (c.write e.variable) place at (r.own_name w s) e.asked form s
 write_bound_goes place at w (outer of_this meaning) form s = write_outer_goes of_this place at (r.own_name w s) meaning form s
+write_bound_goes place at w (alias_behind _) form s = done _ _ (r.unwritable place form (r.own_name w s)) _ s (unwritable_kept place form (r.own_name w s)) refl
 
 write_item_goes : (place : Place) (f' f : Arguments → Core) (index form : Core) → ((all : Arguments) → f' (k.arguments all) ≡ k.core (f all)) →
     Goes k.core (r.write_item (line place) f' (k.core index) (k.core form)) (r.write_item place f index form)

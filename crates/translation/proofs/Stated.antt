@@ -2,6 +2,7 @@
 use Rattle.std.proofs.Common.{◌≡◌, refl, sym, ap, ◌∙◌, ℕ, List, [], ◌∷◌, ◌++◌, map, length, Option, None, Some, Bool, true, false, pos}
 use Rattle.std.proofs.lemmas.List.{map-append}
 use Rattle.std.specs.Prelude.{codes}
+use Rattle.std.specs.List.{flat_map}
 use Rattle.dart_base.specs.declared.place.Place.{Place}
 use Rattle.dart_tree.specs.declared.identifier.Identifier.{Identifier}
 use Rattle.dart_tree.specs.declared.identifier.CommaName.{CommaName}
@@ -192,19 +193,19 @@ var_same (c.at place (c.try body all last)) = refl
 var_same (c.at place (c.switch n form all)) = refl
 var_same (c.at place (c.labelled n form)) = refl
 
-vars_same : (forms : List Core) → st.vars_of (map k.core forms) ≡ st.vars_of forms
+vars_same : (forms : List Core) → flat_map st.var_of (map k.core forms) ≡ flat_map st.var_of forms
 vars_same [] = refl
 vars_same (form ∷ forms) = λ i. var_same form i ++ vars_same forms i
 
 abbrev for_loop : Place → ℕ → List Core → c.Part Text → List Core → c.Part Text → Core
-for_loop p n forms test steps body = st.loop p n (st.vars_of forms) test (st.update_part p steps) body
+for_loop p n forms test steps body = st.loop p n (flat_map st.var_of forms) test (st.update_part p steps) body
 
 for_kept : (p : Place) (n : ℕ) (forms : List Core) (test : c.Part Text) (steps : List Core) (body : c.Part Text) →
     r.block (line p) (map k.core forms ++ for_loop (line p) n (map k.core forms) (k.part test) (map k.core steps) (k.part body) ∷ []) ≡
     k.core (r.block p (forms ++ for_loop p n forms test steps body ∷ []))
 for_kept p n forms test steps body =
     (λ i. r.block (line p) (map k.core forms ++ (((λ j. st.loop (line p) n (vars_same forms j) (k.part test) (update_kept p steps j) (k.part body)) ∙
-    loop_kept p n (st.vars_of forms) test (st.update_part p steps) body) i) ∷ [])) ∙
+    loop_kept p n (flat_map st.var_of forms) test (st.update_part p steps) body) i) ∷ [])) ∙
     (λ i. r.block (line p) (sym (map-append k.core forms (for_loop p n forms test steps body ∷ [])) i)) ∙ block_kept p (forms ++ for_loop p n forms test steps body ∷ [])
 
 abbrev for_turns : Place → ℕ → Walk (c.Part Text) → Walk (List Core) → Walk (c.Part Text) → List Core → Walk (List Core)

@@ -1,5 +1,6 @@
 -- What types stand for, and what is asked for, once annotations and columns are forgotten.
 use Rattle.std.proofs.Common.{◌≡◌, refl, ap, ◌∙◌, List, ◌∷◌, Option, None, Some}
+use Rattle.std.specs.Option.{option_or}
 use Rattle.dart_base.specs.declared.place.Place.{Place}
 use Rattle.dart_base.specs.declared.feature.Feature.TheVariants.{FunctionTypes}
 use Rattle.dart_tree.specs.declared.identifier.Identifier.{Identifier}
@@ -103,7 +104,7 @@ abbrev option_line : Option Place → Option Place
 option_line None = None
 option_line (Some place) = Some (line place)
 
-first_same : (a b : Option Place) → ty.first_place (option_line a) (option_line b) ≡ option_line (ty.first_place a b)
+first_same : (a b : Option Place) → option_or (option_line a) (option_line b) ≡ option_line (option_or a b)
 first_same None b = refl
 first_same (Some a) b = refl
 
@@ -123,8 +124,8 @@ mutual
   pub alias_same : (s : State) (x : y.TypeNode) → ty.alias_in (k.state s) (leaf.type_node x) ≡ option_line (ty.alias_in s x)
   alias_same s (y.dynamic_type place) = refl
   alias_same s (y.named_type name dot given) =
-      (λ i. ty.first_place (ty.alias_place (named_meaning s name dot i) (last_word name dot i).place) (alias_arguments_same s given i)) ∙
-      ap (λ (a : Option Place). ty.first_place a (option_line (ty.alias_in_arguments s given)))
+      (λ i. option_or (ty.alias_place (named_meaning s name dot i) (last_word name dot i).place) (alias_arguments_same s given i)) ∙
+      ap (λ (a : Option Place). option_or a (option_line (ty.alias_in_arguments s given)))
       (alias_place_same (ty.type_meaning s (word_of name) (option_word dot)) (last_of (word_of name) (option_word dot)).place) ∙
       first_same (ty.alias_place (ty.type_meaning s (word_of name) (option_word dot)) (last_of (word_of name) (option_word dot)).place) (ty.alias_in_arguments s given)
 
@@ -135,7 +136,7 @@ mutual
   alias_list_same : (s : State) (x : y.TypeList) → ty.alias_in_list (k.state s) (leaf.type_list x) ≡ option_line (ty.alias_in_list s x)
   alias_list_same s y.no_more_types = refl
   alias_list_same s (y.type_more comma of more) =
-      (λ i. ty.first_place (alias_same s of i) (alias_list_same s more i)) ∙ first_same (ty.alias_in s of) (ty.alias_in_list s more)
+      (λ i. option_or (alias_same s of i) (alias_list_same s more i)) ∙ first_same (ty.alias_in s of) (ty.alias_in_list s more)
 
 unless_ends : {A : Type 0} (o : Option Place) (a : A) (s : State) → ty.unless_alias (option_line o) a (k.state s) ≡ ends (λ x. x) (ty.unless_alias o a s)
 unless_ends None a s = done _ _ a _ s refl refl

@@ -1,6 +1,6 @@
 -- A whole class, and the functions that no declaration writes: implicit accessors and unnamed constructors (ECMA-408, 10.5 Instance
 -- Variables, 10.6 Constructors, 14 Generics).
-use Rattle.std.specs.Prelude.{ℕ, List, [], ◌∷◌, ◌++◌, Option, None, Some, Bool, true, false, ◌||◌, codes, if◌then◌else◌}
+use Rattle.std.specs.Prelude.{ℕ, List, [], ◌∷◌, ◌++◌, map, Option, None, Some, Bool, true, false, ◌||◌, codes, if◌then◌else◌}
 use Rattle.dart_base.specs.declared.place.Place.{Place}
 use Rattle.dart_tree.specs.Places.{place_of}
 use Rattle.dart_tree.specs.Types as y
@@ -21,7 +21,7 @@ use Rattle.translation.specs.References.{block, variable, own_name}
 use Rattle.translation.specs.Functions as f
 use Rattle.translation.specs.Declarations.{standing_in}
 use Rattle.translation.specs.Classes as cl
-use Rattle.translation.specs.Classes.{Around, Field, Draft, Parts}
+use Rattle.translation.specs.Classes.{Around, Field, Generated, Draft, Parts}
 
 -- ---- the types of a header, in which no alias stands (10.9 Superclasses, 10.10 Superinterfaces, 14 Generics)
 
@@ -54,15 +54,18 @@ superclass_kept (Some x) st = on (kept x.superclass st) (λ n st. clause_kept x.
 
 -- ---- a class
 
--- what the functions that are added to a class are made of
+-- What the functions that are added to a class are made of, and what mixin applications take from it: what names mean inside of it,
+-- its members, its fields, their initial values and how many variables these number, and the generative constructors that it writes.
 pub record ClassMade : Type 0 where
   pub class : ℕ
   pub names : Names
   pub name : Word
+  pub members : List u.Member
   pub fields : List Field
   pub values : List Core
   pub count : ℕ
   pub has_constructor : Bool
+  pub constructors : List Generated
 
 abbrev pub is_constructor : u.MemberKind → Bool
 is_constructor (u.constructor_member x) = true
@@ -95,9 +98,10 @@ abbrev pub in_class : {A : Type 0} → Names → Walk A → Walk A
 in_class names walk st = on (walk (record st { names = names; variables = 0 }))
     (λ a after. went a (record after { names = st.names; variables = st.variables }))
 
-abbrev pub around_of : ℕ → Text → List u.Member → State → Around
-around_of n name members st = record {
+abbrev pub around_of : ℕ → Option (List Ty) → Text → List u.Member → State → Around
+around_of n arguments name members st = record {
   class = n;
+  arguments = arguments;
   name = name;
   fields = cl.own_fields st (st.tables.first_field n) members;
   count = 0;
@@ -106,15 +110,24 @@ around_of n name members st = record {
 abbrev pub counting : Around → List u.Member → State → Around
 counting around members st = record around { count = cl.value_count around members st }
 
+abbrev pub around_in : ℕ → Option (List Ty) → Text → List u.Member → State → Around
+around_in n arguments name members st = counting (around_of n arguments name members
+    (standing_in (record { class = Some n; arguments = arguments; has_instance = false }) st)) members st
+
+abbrev pub generated : Draft → Generated
+generated x = record { number = x.head.number; id = x.id; parameters = x.parameters }
+
 abbrev pub class_made : Around → Word → List u.Member → Parts → Walk ClassMade
 class_made around name members parts st = went (record {
   class = around.class;
   names = st.names;
   name = name;
+  members = members;
   fields = around.fields;
   values = parts.values;
   count = around.count;
   has_constructor = has_constructor members;
+  constructors = map generated parts.drafts;
 }) (with_drafts parts.values parts.drafts st)
 
 abbrev pub members_made : Around → Word → List u.Member → Walk ClassMade
@@ -122,15 +135,28 @@ members_made around name members st = on (cl.all_members around members members 
 
 -- the members, where the superclass has the constructor that is called where none is written
 abbrev pub class_members : ℕ → Word → List u.Member → Walk ClassMade
-class_members n name members st = members_made
-    (counting (around_of n name.text members (standing_in (record { class = Some n; has_instance = false }) st)) members st) name members st
+class_members n name members st = members_made (around_in n None name.text members st) name members st
+
+-- a class that is written as a mixin application: it declares nothing, a constructor neither
+abbrev pub without_members : ℕ → Word → Walk ClassMade
+without_members n name st = went (record {
+  class = n;
+  names = st.names;
+  name = name;
+  members = [];
+  fields = [];
+  values = [];
+  count = 0;
+  has_constructor = true;
+  constructors = [];
+}) st
 
 abbrev pub class_kind : ℕ → Word → u.ClassKind → Walk ClassMade
 class_kind n name (u.declared_class above interfaces opening members closing) st =
     on (superclass_kept above st) (λ k st. on (clause_kept interfaces st) (λ k st. class_members n name members st))
 class_kind n name (u.mixed_class equals above mixins interfaces semicolon) st =
     on (kept above st) (λ k st. on (clause_kept (Some mixins) st) (λ k st. on (clause_kept interfaces st)
-    (λ k st. class_members n name [] st)))
+    (λ k st. without_members n name st)))
 
 abbrev pub members_of : u.ClassKind → List u.Member
 members_of (u.declared_class above interfaces opening members closing) = members
@@ -164,7 +190,14 @@ added_head number kind name signature n = record {
   kind = kind;
   name = name;
   signature = signature;
-  inside = record { class = Some n; has_instance = true; result = unasked; gives_value = true; in_handler = false };
+  inside = record {
+    class = Some n;
+    arguments = None;
+    has_instance = true;
+    result = unasked;
+    gives_value = true;
+    in_handler = false;
+  };
 }
 
 -- the type that an annotation wrote
@@ -203,15 +236,16 @@ abbrev pub accessors_added : ℕ → List Field → Walk ℕ
 accessors_added n [] st = went 0 st
 accessors_added n (x ∷ xs) st = on (getter_added n x st) (λ k st. on (setter_added x.is_final n x st) (λ k st. accessors_added n xs st))
 
-abbrev pub unnamed_added : ClassMade → ℕ → Walk ℕ
+abbrev pub unnamed_added : ClassMade → ℕ → Walk (List Generated)
 unnamed_added x k st = on (cl.implicit_super false x.name.place (st.tables.superclass x.class) st) (λ forms st.
-    add x.count (added_head k Generative [] (function dynamic nil nil unnamed) x.class) []
-    (block x.name.place (x.values ++ forms)) st)
+    on (add x.count (added_head k Generative (own_name x.name st) (function dynamic nil nil unnamed) x.class) []
+    (block x.name.place (x.values ++ forms)) st) (λ j st. went (record { number = k; id = []; parameters = [] } ∷ []) st))
 
-abbrev pub constructor_added : Bool → ClassMade → Walk ℕ
-constructor_added true x st = went 0 st
+abbrev pub constructor_added : Bool → ClassMade → Walk (List Generated)
+constructor_added true x st = went x.constructors st
 constructor_added false x st = on (f.numbered st) (unnamed_added x)
 
-abbrev pub class_added : ClassMade → Walk ℕ
+-- The answer is the generative constructors of the class.
+abbrev pub class_added : ClassMade → Walk (List Generated)
 class_added x st = in_class x.names
     (λ st. on (accessors_added x.class x.fields st) (λ k st. constructor_added x.has_constructor x st)) st

@@ -1,6 +1,7 @@
 -- Classes, their fields and constructors (ECMA-408, 10 Classes, 10.5 Instance Variables, 10.6 Constructors).
 use Rattle.std.specs.Prelude.{ℕ, zero, suc, ◌+◌, List, [], ◌∷◌, ◌++◌, map, length, take, drop, nat_eq, bytes_eq, Option, None, Some, Bool, true, false, codes, if◌then◌else◌}
-use Rattle.std.specs.List.{list_any}
+use Rattle.std.specs.List.{list_any, find, range_with_len}
+use Rattle.std.specs.Option.{is_some}
 use Rattle.dart_base.specs.declared.place.Place.{Place}
 use Rattle.dart_base.specs.declared.feature.Feature.TheVariants.{Redirects}
 use Rattle.dart_token.specs.declared.sign.Sign.{Sign}
@@ -68,33 +69,35 @@ own_fields st n (x ∷ xs) = member_fields st n (is_static x.modifier) x.kind ++
     own_fields st (n + length (member_fields st n (is_static x.modifier) x.kind)) xs
 
 abbrev pub field_named : List Field → Text → Option Field
-field_named [] name = None
-field_named (x ∷ xs) name = if bytes_eq x.name.text name then Some x else field_named xs name
+field_named fields name = find (λ x. bytes_eq x.name.text name) fields
 
 abbrev pub field_write : Place → ℕ → Core → Core
 field_write place n form = c.at place (c.unary (c.field_write n) form)
 
 -- FieldWrite(i, Check(FieldInit, e)), or an error where the class doesn't declare the field
 abbrev pub write_field : Place → Place → Option Field → Text → Core → Walk Core
-write_field place at None name form st = went (raised_behind place (form ∷ []) NoSuchMethodError name true) st
+write_field place at None name form st =
+    went (raised_behind place (form ∷ []) NoSuchMethodError (m.name_in st.names.library name) true) st
 write_field place at (Some x) name form st =
     on (checked kind.FieldInit at x.asked form st) (λ form st. went (field_write place x.index form) st)
 
 -- ---- the initial values of fields
 
--- the class around: its number, its name, its fields, and how many variables their initial values number
+-- The class around: its number, its name, its fields, and how many variables their initial values number. A mixin application
+-- has the fields of its mixin, with these type arguments; their declarations are numbered in the mixin.
 pub record Around : Type 0 where
   pub class : ℕ
+  pub arguments : Option (List Ty)
   pub name : Text
   pub fields : List Field
   pub count : ℕ
 
 -- no instance stands in initial values and initialiser lists
 abbrev pub without_instance : Around → Standing
-without_instance around = record { class = Some around.class; has_instance = false }
+without_instance around = record { class = Some around.class; arguments = around.arguments; has_instance = false }
 
 abbrev pub with_instance : Around → Standing
-with_instance around = record { class = Some around.class; has_instance = true }
+with_instance around = record { class = Some around.class; arguments = around.arguments; has_instance = true }
 
 abbrev pub entering : {A : Type 0} → Inside → Walk A → Walk A
 entering context walk st = on (walk (record st { inside = context })) (λ a after. went a (record after { inside = st.inside }))
@@ -111,8 +114,13 @@ initial_value around place name (t.given operator given) st = on (pr.expr given 
     on (write_field place (first.first_of_expr given) (field_named around.fields name) name form (counted_since around.count st after))
     (λ form after. went (form ∷ []) after))
 
+abbrev pub field_numbered : Option (List Ty) → Walk ℕ
+field_numbered None st = f.numbered st
+field_numbered (Some arguments) st = went 0 st
+
 abbrev pub field_value : Around → Place → Identifier → t.Value → Walk (List Core)
-field_value around place name value st = on (f.numbered st) (λ n after. initial_value around place (text_of name) value after)
+field_value around place name value st =
+    on (field_numbered around.arguments st) (λ n after. initial_value around place (text_of name) value after)
 
 abbrev pub more_values : Around → Place → t.MoreVariables → Walk (List Core)
 more_values around place t.no_variables st = went [] st
@@ -147,9 +155,16 @@ this_or (Some this_dot) place = this_dot.this
 
 -- ---- constructors (10.6.1 Generative Constructors)
 
+-- a generative constructor, as a mixin application forwards it: its number, its id, and its parameters
+pub record Generated : Type 0 where
+  pub number : ℕ
+  pub id : Text
+  pub parameters : List (p.Parameter Text)
+
 -- a constructor before the initial values of fields are put in front
 pub record Draft : Type 0 where
   pub place : Place
+  pub id : Text
   pub head : f.Head
   pub parameters : List (p.Parameter Text)
   pub has_values : Bool
@@ -183,10 +198,10 @@ abbrev pub super_new : Place → Option ℕ → Walk Arguments → Walk (List Co
 super_new place None arguments st = refused (bad_constructor place)
 super_new place (Some n) arguments st = on (arguments st) (λ all st. went (row place (c.super_new n) all ∷ []) st)
 
--- Object's constructor is called by nothing.
+-- Object's constructor is called by nothing; what it is handed is evaluated.
 abbrev pub super_of : Place → Option ℕ → Option DotName → Walk Arguments → Walk (List Core)
 super_of place None dot arguments st = refused (bad_constructor place)
-super_of place (Some zero) None arguments st = on (arguments st) (λ all st. went [] st)
+super_of place (Some zero) None arguments st = on (arguments st) (λ all st. went all.forms st)
 super_of place (Some n) dot arguments st = super_new place (generative n dot st) arguments st
 
 -- One FieldWrite for each initialising formal, of its parameter.
@@ -246,20 +261,26 @@ abbrev pub own_block : t.Body → Walk (List Core)
 own_block (t.block_body inside) st = on (pr.block_of inside st) (λ form st. went (form ∷ []) st)
 own_block other st = went [] st
 
+-- what a constructor is called: its id, or its class's name where it has none
+abbrev pub constructor_name : Text → Text → Text
+constructor_name own [] = own
+constructor_name own (first ∷ rest) = first ∷ rest
+
 abbrev pub constructor_head : Around → ℕ → Text → t.Parameters → State → f.Head
 constructor_head around number id parameters st = record {
   number = number;
   kind = Generative;
-  name = m.name_in st.names.library id;
+  name = m.name_in st.names.library (constructor_name around.name id);
   signature = function_type st dynamic parameters;
   inside = record (inside (without_instance around) unasked) { gives_value = false };
 }
 
-abbrev pub drafted : Place → Bool → f.Head → List (p.Parameter Text) → List Core → State → Parts
-drafted place has_values head parameters forms st = record {
+abbrev pub drafted : Place → Text → Bool → f.Head → List (p.Parameter Text) → List Core → State → Parts
+drafted place id has_values head parameters forms st = record {
   values = [];
   drafts = record {
     place = place;
+    id = m.name_in st.names.library id;
     head = head;
     parameters = parameters;
     has_values = has_values;
@@ -269,11 +290,11 @@ drafted place has_values head parameters forms st = record {
 }
 
 -- the parameters, then the forms of the constructor, whose variables follow those of the initial values
-abbrev pub constructed : Around → Place → Bool → f.Head → Walk (List (p.Parameter Text)) →
+abbrev pub constructed : Around → ConstructorName → Bool → f.Head → Walk (List (p.Parameter Text)) →
     (List (p.Parameter Text) → Walk (List Core)) → Walk Parts
-constructed around place has_values head parameters forms st = outermost (if has_values then around.count else 0)
+constructed around name has_values head parameters forms st = outermost (if has_values then around.count else 0)
     (λ st. entering head.inside (scoped (λ st. on (parameters st) (λ bound st. on (forms bound st)
-    (λ all st. went (drafted place has_values head bound all st) st)))) st) st
+    (λ all st. went (drafted (place_of name.class) (id_of name.name) has_values head bound all st) st)))) st) st
 
 abbrev pub generative_forms :
     Around → t.Parameters → Option u.Initializers → List Core → t.Body → List (p.Parameter Text) → Walk (List Core)
@@ -285,7 +306,7 @@ generative_forms around given inits implied body bound st = on (all_formals arou
 abbrev pub generative_constructor : Around → ConstructorName → t.Parameters → Option u.Initializers → t.Body → ℕ → Walk Parts
 generative_constructor around name given inits body n st =
     on (implicit_super (writes_super inits) (place_of name.class) (st.tables.superclass around.class) st) (λ implied st.
-    constructed around (place_of name.class) true
+    constructed around name true
     (constructor_head around n (id_of name.name) given (standing_in (without_instance around) st))
     (f.bind_parameters true (standing_in (without_instance around) st) given) (generative_forms around given inits implied body) st)
 
@@ -320,7 +341,7 @@ redirected_if false place constructor arguments st = super_new place constructor
 
 abbrev pub redirecting_constructor :
     Around → List u.Member → ConstructorName → t.Parameters → Place → Option DotName → t.Arguments → ℕ → Walk Parts
-redirecting_constructor around members name given this other handed n st = constructed around (place_of name.class) false
+redirecting_constructor around members name given this other handed n st = constructed around name false
     (constructor_head around n (id_of name.name) given (standing_in (without_instance around) st))
     (f.bind_parameters false (standing_in (without_instance around) st) given)
     (λ bound st. redirected_if (is_circular members (id_of name.name)) this (generative around.class other st) (pr.arguments handed) st) st
@@ -328,19 +349,17 @@ redirecting_constructor around members name given this other handed n st = const
 -- ---- factories (10.6.2 Factories)
 
 -- the class over its own type parameters
-abbrev pub own_types : ℕ → List Ty
-own_types zero = []
-own_types (suc n) = own_types n ++ parameter n ∷ []
+abbrev pub own_type : ℕ → State → Ty
+own_type n st = class n (tys (map parameter (range_with_len 0 (st.tables.parameters n))))
 
 -- A factory's value is asked for the class, which erasure keeps.
 abbrev pub factory_head : Around → ℕ → Text → t.Parameters → State → f.Head
 factory_head around number id parameters st = record {
   number = number;
   kind = Factory;
-  name = m.name_in st.names.library id;
+  name = m.name_in st.names.library (constructor_name around.name id);
   signature = function_type st dynamic parameters;
-  inside = inside (without_instance around)
-      (record { of = Some (class around.class (tys (own_types (st.tables.parameters around.class)))); annotated = false });
+  inside = inside (without_instance around) (record { of = Some (own_type around.class st); annotated = false });
 }
 
 abbrev pub factory : Around → Option Place → ConstructorName → t.Parameters → t.Body → ℕ → Walk Parts
@@ -349,22 +368,17 @@ factory around external name given body n st = on (unless_external external (st.
     (f.bind_parameters false (standing_in (without_instance around) st) given)
     (native_body external (st.tables.native n) false given (pr.body body)))) st) (λ n st. went no_parts st)
 
-abbrev pub first_of_factory : Option Place → Place → Place
-first_of_factory None word = word
-first_of_factory (Some place) word = place
-
-abbrev pub is_given : Option Place → Bool
-is_given None = false
-is_given (Some place) = true
+abbrev pub no_redirects : Place → Walk Parts
+no_redirects word st = refused (left_out word Redirects)
 
 abbrev pub constructor : Around → List u.Member → u.Constructor → ℕ → Walk Parts
 constructor around members (u.generative constant name given inits body) n st =
-    generative_constructor around name given inits body n (e.meeting_constant (is_given constant) st)
+    generative_constructor around name given inits body n (e.meeting_constant (is_some constant) st)
 constructor around members (u.redirecting name given colon this other handed semicolon) n st =
     redirecting_constructor around members name given this other handed n st
 constructor around members (u.factory external word name given body) n st = factory around external name given body n st
 constructor around members (u.redirecting_factory external word name given equals target other semicolon) n st =
-    refused (left_out (first_of_factory external word) Redirects)
+    unless_external external (st.tables.native n) (no_redirects word) st
 
 -- ---- members
 
@@ -377,14 +391,9 @@ abbrev pub external_of : Modifier → Option Place → Option Place
 external_of (mo.ExternalStatic place static) written = Some place
 external_of other written = written
 
--- A method has not the name of its class, as a constructor has.
-abbrev pub named_as : Bool → Place → Walk ℕ → Walk ℕ
-named_as true place walk st = refused (bad_constructor place)
-named_as false place walk st = walk st
-
 abbrev pub method : Around → Modifier → Declared → Walk Parts
-method around modifier x st = on (named_as (bytes_eq x.name.text around.name) x.name.place
-    (declared_function (standing_of around (is_static modifier)) (record x { external = external_of modifier x.external })) st)
+method around modifier x st =
+    on (declared_function (standing_of around (is_static modifier)) (record x { external = external_of modifier x.external }) st)
     (λ n st. went no_parts st)
 
 -- the place and the text of an operator's name; `-` without parameters has a name of its own (10.1.1 Operators)

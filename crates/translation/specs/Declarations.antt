@@ -1,6 +1,7 @@
 -- Top-level and static functions, accessors and variables, and the methods of classes (ECMA-408, 8 Variables, 9 Functions, 10.1
 -- Instance Methods, 10.2 Getters, 10.3 Setters, 10.7 Static Methods, 10.8 Static Variables).
 use Rattle.std.specs.Prelude.{ℕ, ◌+◌, List, [], ◌∷◌, ◌++◌, map, length, take, drop, filter, Option, None, Some, Bool, true, false}
+use Rattle.std.specs.List.{range_with_len}
 use Rattle.dart_base.specs.declared.place.Place.{Place}
 use Rattle.dart_base.specs.declared.feature.Feature.TheVariants.{External}
 use Rattle.dart_tree.specs.Types as y
@@ -10,7 +11,7 @@ use Rattle.dart_ir.specs.declared.native.NativeId.{NativeId}
 use Rattle.core_program.specs.declared.program.FunctionKind.TheVariants.{Plain}
 use Rattle.core_program.specs.Core as c
 use Rattle.core_program.specs.Program as p
-use Rattle.translation.specs.Surroundings.{Text, Core}
+use Rattle.translation.specs.Surroundings.{Text, Ty, Core}
 use Rattle.translation.specs.Walk.{Asked, unasked, Inside, Made, State, Walk, went, refused, on, within, left_out}
 use Rattle.translation.specs.Firsts as first
 use Rattle.translation.specs.Types.{Word, word_of, asked_of_kind, asked_of_result, function_type, result_type, is_final, is_const}
@@ -36,14 +37,17 @@ numbered_since before st = record st {
 unfoldable pub outermost : {A : Type 0} → ℕ → Walk A → Walk A
 outermost start walk st = on (walk (record st { variables = start })) (λ a after. went a (numbered_since st after))
 
--- where a body stands: the class whose type parameters may stand there, and whether there is an instance
+-- where a body stands: the class whose type parameters may stand there, the type arguments that a mixin application gives it as a
+-- mixin, and whether there is an instance
 pub record Standing : Type 0 where
   pub class : Option ℕ
+  pub arguments : Option (List Ty)
   pub has_instance : Bool
 
 abbrev pub inside : Standing → Asked → Inside
 inside standing result = record {
   class = standing.class;
+  arguments = standing.arguments;
   has_instance = standing.has_instance;
   result = result;
   gives_value = true;
@@ -70,7 +74,7 @@ with_this false place forms = forms
 -- Native of the parameters, with `this` first where there is one
 abbrev pub native_form : Place → NativeId → Bool → ℕ → Core
 native_form place native has_instance parameters =
-    row place (c.native native) (by_place (with_this has_instance place (map (variable place) (f.below parameters))))
+    row place (c.native native) (by_place (with_this has_instance place (map (variable place) (range_with_len 0 parameters))))
 
 abbrev pub native_body : Option Place → Option NativeId → Bool → t.Parameters → Walk (c.Part Text) → Walk (c.Part Text)
 native_body (Some place) (Some native) has_instance parameters body st =
@@ -134,7 +138,7 @@ abbrev pub static_made : Text → Bool → State → c.Part Text → p.Static Te
 static_made name is_final st init = record {
   name = name;
   vars = st.variables;
-  cells = filter (λ x. f.any_form (f.takes st.functions x) init) (f.below st.variables);
+  cells = filter (λ x. f.any_form (f.takes st.functions x) init) (range_with_len 0 st.variables);
   init = init;
   is_final = is_final;
 }
@@ -160,7 +164,7 @@ static_variables asked is_final (t.variable comma name value rest) st =
 
 -- several names of one declaration; a static member has no type parameters and no instance
 abbrev pub static_standing : Standing
-static_standing = record { class = None; has_instance = false }
+static_standing = record { class = None; arguments = None; has_instance = false }
 
 abbrev pub static_names : t.Variables → Walk ℕ
 static_names (t.the_variables kind name value more semicolon) st =

@@ -26,7 +26,7 @@ use Rattle.translation.specs.Surroundings.{Text, Ty, Core, Meaning}
 use Rattle.translation.specs.Surroundings as m
 use Rattle.translation.specs.Walk.{Asked, unasked, State, Walk, went, refused, on, bad_word, checked, tested, with_literal}
 use Rattle.translation.specs.Strings.{Part, units, shown}
-use Rattle.translation.specs.Types.{Word, word_of, option_word, last_of, Typed, well_formed, malformed, meaning_of, fitting}
+use Rattle.translation.specs.Types.{Word, word_of, option_word, last_of, tys, Typed, well_formed, malformed, meaning_of, fitting}
 use Rattle.translation.specs.References.{Arguments, by_place, Reference, evaluated, item, constant, null, truth, this, block, raised_behind, row, send, in_let, own_name, identifier, read, called, assigned, compound, stepped}
 
 -- ---- constants, this and identifiers (16.2 Null to 16.5 Strings, 16.11 This)
@@ -370,12 +370,13 @@ abbrev pub missing_name : Option Word → Text → State → Text
 missing_name None name st = name
 missing_name (Some id) name st = own_name id st
 
-abbrev pub bound_if : Bool → Place → Core → Walk Core
-bound_if false place form st = went form st
-bound_if true place form st = checked kind.Bound place unasked form st
+-- a type whose arguments are tested against the bounds of its class; erasure keeps it
+abbrev pub bound_if : Bool → Place → Ty → Core → Walk Core
+bound_if false place of form st = went form st
+bound_if true place of form st = checked kind.Bound place (record { of = Some of; annotated = false }) form st
 
 abbrev pub new_form : Place → ℕ → ℕ → List Ty → Arguments → Walk Core
-new_form place n constructor types arguments st = bound_if (st.tables.is_bounded n) place
+new_form place n constructor types arguments st = bound_if (st.tables.is_bounded n) place (class n (tys types))
     (c.at place (c.new n constructor types (c.cores arguments.forms) arguments.names)) st
 
 abbrev pub created_by : m.Made → Place → ℕ → List Ty → Text → Arguments → Walk Core

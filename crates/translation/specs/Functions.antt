@@ -1,7 +1,7 @@
 -- Functions, their parameters and bodies, and the variables that closures share (ECMA-408, 9 Functions, 16.10 Function
 -- Expressions, 17.4 Local Function Declaration).
-use Rattle.std.specs.Prelude.{ℕ, ◌+◌, List, [], ◌∷◌, ◌++◌, filter, length, take, nat_eq, Option, None, Some, Bool, true, false, ◌&&◌, ◌||◌, not, neg_ℤ, pos, zero, suc}
-use Rattle.std.specs.List.{list_any}
+use Rattle.std.specs.Prelude.{ℕ, ◌+◌, List, [], ◌∷◌, ◌++◌, filter, length, take, nat_eq, Option, None, Some, Bool, true, false, ◌&&◌, ◌||◌, not, neg_ℤ, pos}
+use Rattle.std.specs.List.{list_any, range_with_len}
 use Rattle.dart_base.specs.declared.place.Place.{Place}
 use Rattle.dart_tree.specs.declared.parameter.Brackets.{Brackets}
 use Rattle.dart_tree.specs.declared.parameter.ThisDot.{ThisDot}
@@ -28,11 +28,6 @@ use Rattle.translation.specs.Statements.{Literal, no_literal, a_null, a_bool, an
 abbrev pub any_form : (c.Form Text → Bool) → c.Part Text → Bool
 any_form test body = list_any (λ x. test (form_of x)) (part_nodes body)
 
--- the numbers below n
-abbrev pub below : ℕ → List ℕ
-below zero = []
-below (suc n) = below n ++ n ∷ []
-
 abbrev pub is_parameter : ℕ → List (p.Parameter Text) → Bool
 is_parameter x parameters = list_any (λ q. nat_eq q.var x) parameters
 
@@ -54,12 +49,12 @@ takes functions x other = false
 -- the variables that it declares and a function inside takes along
 abbrev pub cells : List (Made (p.Function Text)) → ℕ → List (p.Parameter Text) → c.Part Text → List ℕ
 cells functions count parameters body =
-    filter (λ x. function_declares x parameters body && any_form (takes functions x) body) (below count)
+    filter (λ x. function_declares x parameters body && any_form (takes functions x) body) (range_with_len 0 count)
 
 -- the variables that it or a function inside names, and that it doesn't declare
 abbrev pub captures : List (Made (p.Function Text)) → ℕ → List (p.Parameter Text) → c.Part Text → List ℕ
 captures functions count parameters body = filter (λ x. not (function_declares x parameters body)
-    && (any_form (names x) body || any_form (takes functions x) body)) (below count)
+    && (any_form (names x) body || any_form (takes functions x) body)) (range_with_len 0 count)
 
 -- ---- functions
 

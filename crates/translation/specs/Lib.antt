@@ -14,4 +14,6 @@ pub mod Declarations
 pub mod LinedUnit
 pub mod Classes
 pub mod ClassBodies
+pub mod Applications
+pub mod MemberNames
 pub mod Program

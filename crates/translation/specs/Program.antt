@@ -1,5 +1,8 @@
 -- The core of a program (ECMA-408, 18 Libraries and Scripts): its units in order, and then what is added to its classes.
-use Rattle.std.specs.Prelude.{ℕ, List, [], ◌∷◌, ◌++◌, map, length, nat_eq, None, Bool, true, false, if◌then◌else◌}
+use Rattle.std.specs.Prelude.{ℕ, List, [], ◌∷◌, ◌++◌, map, nat_eq, Option, None, Some, Bool, true, false, if◌then◌else◌}
+use Rattle.std.specs.List.{range_with_len}
+use Rattle.std.specs.Option.{option_or}
+use Rattle.dart_base.specs.declared.place.Place.{Place}
 use Rattle.dart_tree.specs.Unit as u
 use Rattle.dart_erase.specs.UnitErased as erased
 use Rattle.dart_ir.specs.Ty.{dynamic}
@@ -13,6 +16,8 @@ use Rattle.translation.specs.Walk.{Reason, left_out, not_constant, bad_label, ba
 use Rattle.translation.specs.Functions as f
 use Rattle.translation.specs.Declarations as d
 use Rattle.translation.specs.ClassBodies as b
+use Rattle.translation.specs.Applications.{added}
+use Rattle.translation.specs.MemberNames as member_names
 use Rattle.translation.specs.LinedUnit as lined
 
 -- ---- declarations
@@ -51,15 +56,6 @@ units [] st = went [] st
 units (x ∷ xs) st = on (declarations x.declarations (record st { names = x.names }))
     (λ made st. on (units xs st) (λ more st. went (made ++ more) st))
 
-abbrev pub class_numbered : ℕ → List b.ClassMade → Walk ℕ
-class_numbered n [] st = went 0 st
-class_numbered n (x ∷ xs) st = if nat_eq x.class n then b.class_added x st else class_numbered n xs st
-
--- class by class, in the order of the table
-abbrev pub added : List ℕ → List b.ClassMade → Walk ℕ
-added [] made st = went 0 st
-added (n ∷ ns) made st = on (class_numbered n made st) (λ k st. added ns made st)
-
 -- ---- programs
 
 -- what is translated: the units, and the table of their classes
@@ -77,7 +73,14 @@ abbrev pub start : Given → State
 start given = record {
   names = given.first_names;
   tables = given.tables;
-  inside = record { class = None; has_instance = false; result = unasked; gives_value = true; in_handler = false };
+  inside = record {
+    class = None;
+    arguments = None;
+    has_instance = false;
+    result = unasked;
+    gives_value = true;
+    in_handler = false;
+  };
   scopes = [];
   targets = [];
   variables = 0;
@@ -112,7 +115,7 @@ made_as otherwise [] n = otherwise
 made_as otherwise (x ∷ xs) n = if nat_eq x.number n then x.made else made_as otherwise xs n
 
 abbrev pub table : {A : Type 0} → A → List (Made A) → ℕ → List A
-table otherwise made count = map (made_as otherwise made) (f.below count)
+table otherwise made count = map (made_as otherwise made) (range_with_len 0 count)
 
 abbrev pub program : Given → State → p.Program Text
 program given st = record {
@@ -143,10 +146,32 @@ answer given (went n st) = built st.has_constants (program given st)
 answer given (refused reason) = rejected reason
 
 abbrev pub walk : Given → Walk ℕ
-walk given st = on (units given.units st) (λ made st. added (f.below (length given.classes)) made st)
+walk given st = on (units given.units st) (λ made st. added 0 given.classes made [] st)
+
+abbrev pub place_of : Reason → Place
+place_of (left_out place feature) = place
+place_of (not_constant place) = place
+place_of (bad_label place) = place
+place_of (bad_constructor place) = place
+place_of (bad_switch place) = place
+place_of (bad_word place) = place
+place_of (too_large place) = place
+
+abbrev pub named_as_class : List SourceUnit → Option Place
+named_as_class [] = None
+named_as_class (x ∷ xs) = option_or (member_names.of_declarations x.declarations) (named_as_class xs)
+
+abbrev pub earlier : Place → Answer → Answer
+earlier place (rejected why) = rejected (if member_names.is_before (place_of why) place then why else bad_constructor place)
+earlier place other = rejected (bad_constructor place)
+
+-- refused at that place, unless there is a reason before it
+abbrev pub refused_at : Option Place → Answer → Answer
+refused_at None answer = answer
+refused_at (Some place) answer = earlier place answer
 
 abbrev pub core : Given → Answer
-core given = answer given (walk given (start given))
+core given = refused_at (named_as_class given.units) (answer given (walk given (start given)))
 
 -- ---- what is alike
 

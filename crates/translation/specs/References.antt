@@ -9,12 +9,12 @@ use Rattle.dart_ir.specs.declared.kind.ThrowKind.{ThrowKind}
 use Rattle.dart_ir.specs.declared.kind.ThrowKind.TheVariants.{NoSuchMethodError, MalformedTypeError}
 use Rattle.dart_ir.specs.declared.value.Value.{Value}
 use Rattle.dart_ir.specs.declared.value.Value.TheVariants as v
-use Rattle.dart_ir.specs.Ty.{class, parameter}
+use Rattle.dart_ir.specs.Ty.{class}
 use Rattle.core_program.specs.Core as c
 use Rattle.translation.specs.Surroundings.{Text, Ty, Core, Meaning, name_in}
 use Rattle.translation.specs.Surroundings as m
 use Rattle.translation.specs.Walk.{Asked, unasked, Entry, State, Walk, went, refused, on, left_out, checked, fresh, entry_of}
-use Rattle.translation.specs.Types.{Word, tys, fitting}
+use Rattle.translation.specs.Types.{Word, tys, fitting, argument_in}
 
 -- ---- forms
 
@@ -71,10 +71,12 @@ raised_behind place forms thrown name is_setter = block place (forms ++ raise pl
 
 -- ---- references
 
--- What a name is bound to: a local entry, or what it means outside; and whether a name that nothing gives is one of `this`.
+-- What a name is bound to: a local entry, or what it means outside, with whether a name that nothing gives is one of `this`.
 pub data Bound : Type 0 where
   local : Entry → Bound
   outer : Bool → Meaning → Bound
+  -- an alias behind a prefix, with the place of its own name
+  alias_behind : Place → Bound
 
 -- what can be read, called or assigned
 pub data Reference : Type 0 where
@@ -109,9 +111,9 @@ or_of_this false of_this missing = missing
 abbrev pub class_value : Place → ℕ → State → Core
 class_value place n st = c.at place (c.type_literal (class n (tys (fitting (st.tables.parameters n) []))))
 
-abbrev pub parameter_value : Place → Option ℕ → ℕ → Text → Core
-parameter_value place None n name = raise place MalformedTypeError name false
-parameter_value place (Some around) n name = c.at place (c.type_literal (parameter n))
+abbrev pub parameter_value : Place → Option ℕ → Ty → Text → Core
+parameter_value place None of name = raise place MalformedTypeError name false
+parameter_value place (Some around) of name = c.at place (c.type_literal of)
 
 abbrev pub read_getter : Place → Option ℕ → Text → Core
 read_getter place None name = raise place NoSuchMethodError name false
@@ -127,7 +129,8 @@ read_outer of_this place name (m.variable n is_final) st = went (c.at place (c.l
 read_outer of_this place name (m.accessors getter setter) st = went (read_getter place getter name) st
 read_outer of_this place name (m.class n) st = went (class_value place n st) st
 read_outer of_this place name (m.alias n) st = refused (left_out place FunctionTypes)
-read_outer of_this place name (m.type_parameter n) st = went (parameter_value place st.inside.class n name) st
+read_outer of_this place name (m.type_parameter n) st =
+    went (parameter_value place st.inside.class (argument_in st.inside.arguments n) name) st
 read_outer of_this place name m.prefix st = went (raise place NoSuchMethodError name false) st
 read_outer of_this place name m.member st = went (read_unknown of_this place name) st
 read_outer of_this place name m.ambiguous st = went (read_unknown of_this place name) st
@@ -136,6 +139,7 @@ read_outer of_this place name m.unknown st = went (read_unknown of_this place na
 abbrev pub read_bound : Word → Bound → Walk Core
 read_bound word (local entry) st = went (variable word.place entry.variable) st
 read_bound word (outer of_this meaning) st = read_outer of_this word.place (own_name word st) meaning st
+read_bound word (alias_behind at) st = refused (left_out at FunctionTypes)
 
 abbrev pub read : Place → Reference → Walk Core
 read place (evaluated form) st = went form st
@@ -151,9 +155,9 @@ abbrev pub call_getter : Place → Option ℕ → Text → Arguments → Core
 call_getter place None name arguments = raised_behind place arguments.forms NoSuchMethodError name false
 call_getter place (Some getter) name arguments = apply place (call place getter (by_place [])) arguments
 
-abbrev pub call_parameter : Place → Option ℕ → ℕ → Text → Arguments → Core
-call_parameter place None n name arguments = raised_behind place arguments.forms MalformedTypeError name false
-call_parameter place (Some around) n name arguments = apply place (c.at place (c.type_literal (parameter n))) arguments
+abbrev pub call_parameter : Place → Option ℕ → Ty → Text → Arguments → Core
+call_parameter place None of name arguments = raised_behind place arguments.forms MalformedTypeError name false
+call_parameter place (Some around) of name arguments = apply place (c.at place (c.type_literal of)) arguments
 
 abbrev pub call_unknown : Bool → Place → Text → Arguments → Core
 call_unknown of_this place name arguments =
@@ -165,7 +169,8 @@ call_outer of_this place name (m.variable n is_final) arguments st = went (apply
 call_outer of_this place name (m.accessors getter setter) arguments st = went (call_getter place getter name arguments) st
 call_outer of_this place name (m.class n) arguments st = went (apply place (class_value place n st) arguments) st
 call_outer of_this place name (m.alias n) arguments st = refused (left_out place FunctionTypes)
-call_outer of_this place name (m.type_parameter n) arguments st = went (call_parameter place st.inside.class n name arguments) st
+call_outer of_this place name (m.type_parameter n) arguments st =
+    went (call_parameter place st.inside.class (argument_in st.inside.arguments n) name arguments) st
 call_outer of_this place name m.prefix arguments st = went (raised_behind place arguments.forms NoSuchMethodError name false) st
 call_outer of_this place name m.member arguments st = went (call_unknown of_this place name arguments) st
 call_outer of_this place name m.ambiguous arguments st = went (call_unknown of_this place name arguments) st
@@ -174,6 +179,7 @@ call_outer of_this place name m.unknown arguments st = went (call_unknown of_thi
 abbrev pub call_bound : Word → Bound → Arguments → Walk Core
 call_bound word (local entry) arguments st = went (apply word.place (variable word.place entry.variable) arguments) st
 call_bound word (outer of_this meaning) arguments st = call_outer of_this word.place (own_name word st) meaning arguments st
+call_bound word (alias_behind at) arguments st = refused (left_out at FunctionTypes)
 
 -- a reference with the arguments behind it; the receiver comes first
 abbrev pub called : Place → Reference → Arguments → Walk Core
@@ -188,18 +194,24 @@ called place (super_item index) arguments st =
 -- the name of an alias is no value
 abbrev pub no_alias_at : Word → Bound → Reference → Walk Reference
 no_alias_at word (outer of_this (m.alias n)) reference st = refused (left_out word.place FunctionTypes)
+no_alias_at word (alias_behind at) reference st = refused (left_out at FunctionTypes)
 no_alias_at word other reference st = went reference st
 
 abbrev pub callable : Reference → Walk Reference
 callable (named word bound) st = no_alias_at word bound (named word bound) st
 callable reference st = went reference st
 
+-- what a prefix gives under a name at a place
+abbrev pub behind : Place → Meaning → Bound
+behind at (m.alias n) = alias_behind at
+behind at meaning = outer false meaning
+
 -- r.n: behind the name of a class a static member of it, behind a prefix what it gives
 abbrev pub member_behind : Place → Word → Word → Bound → Walk Reference
 member_behind place word first (outer of_this (m.class n)) st =
     went (named (record { place = place; text = word.text }) (outer false (st.tables.static n (own_name word st)))) st
 member_behind place word first (outer of_this m.prefix) st =
-    went (named (record { place = place; text = word.text }) (outer false (st.names.prefixed first.text word.text))) st
+    went (named (record { place = place; text = word.text }) (behind word.place (st.names.prefixed first.text word.text))) st
 member_behind place word first bound st = on (read_bound first bound st) (λ form st. went (member form (own_name word st)) st)
 
 abbrev pub member_of : Place → Word → Reference → Walk Reference
@@ -253,6 +265,7 @@ abbrev pub write_bound : Place → Place → Word → Bound → Core → Walk Co
 write_bound place at word (local entry) form st =
     write_if entry.is_final (c.write entry.variable) place at (own_name word st) entry.asked form st
 write_bound place at word (outer of_this meaning) form st = write_outer of_this place at (own_name word st) meaning form st
+write_bound place at word (alias_behind _) form st = went (unwritable place form (own_name word st)) st
 
 -- a[i] = v is Let(t, v, Block(Send(a, []=, [i, t]), t)), where a and i are variables
 abbrev pub write_item : Place → (Arguments → Core) → Core → Core → Walk Core

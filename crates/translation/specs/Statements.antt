@@ -1,7 +1,7 @@
 -- The forms of statements over walks that give the forms of their parts (ECMA-408, 17 Statements). A statement gives a list of
 -- forms: none where it is empty, and one for each variable that it declares.
 use Rattle.std.specs.Prelude.{ℕ, ◌+◌, List, [], ◌∷◌, ◌++◌, map, length, Option, None, Some, Bool, true, false, codes, bytes_eq, pos, if◌then◌else◌}
-use Rattle.std.specs.List.{list_any}
+use Rattle.std.specs.List.{list_any, flat_map}
 use Rattle.dart_base.specs.declared.place.Place.{Place}
 use Rattle.dart_tree.specs.declared.identifier.Identifier.{Identifier}
 use Rattle.dart_tree.specs.declared.identifier.CommaName.{CommaName}
@@ -183,17 +183,13 @@ abbrev pub var_of : Core → List ℕ
 var_of (c.at place (c.unary (c.var x) form)) = x ∷ []
 var_of other = []
 
-abbrev pub vars_of : List Core → List ℕ
-vars_of [] = []
-vars_of (form ∷ forms) = var_of form ++ vars_of forms
-
 -- for (i; c; u) b is Block(i, Loop(xs, c, Block(u), b)), xs being the variables that i declares
 abbrev pub for_form :
     List Text → Place → Walk (List Core) → Walk (c.Part Text) → Walk (List Core) → Walk (c.Part Text) → Walk (List Core)
 for_form labels place start test updates body st =
     scoped (λ st. on (start st) (λ forms after. on (looping labels (λ after. on (test after) (λ test after. on (updates after)
     (λ steps after. on (body after) (λ body after. went (block place (forms ++
-    loop place (length st.targets) (vars_of forms) test (update_part place steps) body ∷ []) ∷ []) after)))) after) went)) st
+    loop place (length st.targets) (flat_map var_of forms) test (update_part place steps) body ∷ []) ∷ []) after)))) after) went)) st
 
 -- what the turn of a for-in does with the next value: a new variable, or an assignment
 abbrev pub next_variable : Place → Word → Asked → Bool → Core → Walk Core

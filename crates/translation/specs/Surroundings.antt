@@ -51,6 +51,11 @@ pub data Made : Type 0 where
   factory : ℕ → Made
   no_constructor : Made
 
+-- the class whose members a mixin application has, with the type arguments that it gives it (12.1 Mixin Application)
+pub record Mixin : Type 0 where
+  pub class : ℕ
+  pub arguments : List Ty
+
 -- what the table of classes has, and what else the whole program shares
 pub record Tables : Type 0 where
   -- how many type parameters a class has, and whether any of them has a bound
@@ -59,6 +64,8 @@ pub record Tables : Type 0 where
   -- the superclass, mixin applications included, and how many fields stand above those of a class
   pub superclass : ℕ → Option ℕ
   pub first_field : ℕ → ℕ
+  -- of a mixin application alone, one that a class is written as included
+  pub mixin : ℕ → Option Mixin
   -- what names mean inside of a class
   pub class_names : ℕ → Names
   -- what a class declares as static under a name (10.7 Static Methods, 10.8 Static Variables)

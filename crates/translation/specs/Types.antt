@@ -1,6 +1,7 @@
 -- What types stand for where they are written, and what annotations ask for (ECMA-408, 19.1 Static Types, 19.3 Type
 -- Declarations).
-use Rattle.std.specs.Prelude.{ℕ, List, [], ◌∷◌, length, nat_eq, Option, None, Some, Bool, true, false, if◌then◌else◌}
+use Rattle.std.specs.Prelude.{ℕ, List, [], ◌∷◌, length, nat_eq, Option, None, Some, Bool, true, false, if◌then◌else◌, slice_get}
+use Rattle.std.specs.Option.{option_or, unwrap_or}
 use Rattle.dart_base.specs.declared.place.Place.{Place}
 use Rattle.dart_base.specs.declared.feature.Feature.TheVariants.{FunctionTypes}
 use Rattle.dart_tree.specs.declared.identifier.Identifier.{Identifier}
@@ -78,10 +79,15 @@ tys (one ∷ more) = cons one (tys more)
 abbrev pub fitting : ℕ → List Ty → List Ty
 fitting count given = if nat_eq (length given) count then given else replicate count dynamic
 
+-- what a type parameter stands for: itself, or what a mixin application gives its mixin
+abbrev pub argument_in : Option (List Ty) → ℕ → Ty
+argument_in None n = parameter n
+argument_in (Some given) n = unwrap_or (slice_get given n) dynamic
+
 -- a type parameter of the class around, which static members haven't
-abbrev pub parameter_type : Option ℕ → ℕ → Text → Typed
-parameter_type None n name = malformed name
-parameter_type (Some around) n name = well_formed (parameter n)
+abbrev pub parameter_type : Option ℕ → Ty → Text → Typed
+parameter_type None of name = malformed name
+parameter_type (Some around) of name = well_formed of
 
 -- what an alias with its type arguments stands for
 abbrev pub AliasType : Type 0
@@ -90,7 +96,8 @@ AliasType = ℕ → List Ty → Ty
 abbrev pub typed_as : AliasType → State → Meaning → List Ty → Text → Typed
 typed_as alias_type st (m.class n) given name = well_formed (class n (tys (fitting (st.tables.parameters n) given)))
 typed_as alias_type st (m.alias n) given name = well_formed (alias_type n given)
-typed_as alias_type st (m.type_parameter n) given name = parameter_type st.inside.class n name
+typed_as alias_type st (m.type_parameter n) given name =
+    parameter_type st.inside.class (argument_in st.inside.arguments n) name
 typed_as alias_type st other given name = malformed name
 
 abbrev mutual
@@ -149,12 +156,8 @@ asked_of_result st (Some (y.typed_result of)) = asked_of st (Some of)
 
 -- ---- signatures (19.5 Function Types)
 
-abbrev pub option_type : Option Ty → Ty
-option_type None = dynamic
-option_type (Some of) = of
-
 abbrev pub type_asked : Asked → Ty
-type_asked asked = option_type asked.of
+type_asked asked = unwrap_or asked.of dynamic
 
 -- optional parameters in square brackets, and those in braces
 abbrev pub in_brackets : {A : Type 0} → BracketKind → A → A → A
@@ -203,10 +206,6 @@ abbrev mutual
 
 -- ---- types outside of annotations
 
-abbrev pub first_place : Option Place → Option Place → Option Place
-first_place None later = later
-first_place (Some place) later = Some place
-
 abbrev pub alias_place : Meaning → Place → Option Place
 alias_place (m.alias n) place = Some place
 alias_place other place = None
@@ -216,7 +215,7 @@ abbrev mutual
   pub alias_in : State → y.TypeNode → Option Place
   alias_in st (y.dynamic_type place) = None
   alias_in st (y.named_type name dot arguments) =
-      first_place (alias_place (type_meaning st (word_of name) (option_word dot)) (last_of (word_of name) (option_word dot)).place)
+      option_or (alias_place (type_meaning st (word_of name) (option_word dot)) (last_of (word_of name) (option_word dot)).place)
       (alias_in_arguments st arguments)
 
   pub alias_in_arguments : State → y.TypeArguments → Option Place
@@ -225,7 +224,7 @@ abbrev mutual
 
   pub alias_in_list : State → y.TypeList → Option Place
   alias_in_list st y.no_more_types = None
-  alias_in_list st (y.type_more comma one more) = first_place (alias_in st one) (alias_in_list st more)
+  alias_in_list st (y.type_more comma one more) = option_or (alias_in st one) (alias_in_list st more)
 
 -- no alias stands there
 abbrev pub no_alias : AliasType

@@ -49,6 +49,8 @@ pub record Target : Type 0 where
 pub record Inside : Type 0 where
   -- the class whose type parameters may stand there
   pub class : Option ℕ
+  -- in what a mixin application takes from its mixin: the type arguments that it gives the mixin
+  pub arguments : Option (List Ty)
   -- whether there is a `this` (16.11 This)
   pub has_instance : Bool
   -- what a returned value is asked for, and whether one may be returned (17.12 Return)

@@ -1,16 +1,20 @@
 // Small facts of translation, each about one form.
-ghost use Rattle.std.specs.Prelude.{◌≡◌, List, [], ◌∷◌, None, true, false};
+ghost use Rattle.std.specs.Prelude.{◌≡◌, ℕ, List, [], ◌∷◌, Some, None, true, false};
 ghost use Rattle.core_program.specs.Core as c;
 ghost use Rattle.core_program.specs.Program as p;
 ghost use Rattle.core_program.specs.declared.form.Way.TheVariants as way;
 ghost use Rattle.dart_base.specs.declared.place.Place.{Place};
+ghost use Rattle.dart_ir.specs.Ty.{class};
 ghost use Rattle.dart_ir.specs.declared.kind.SiteKind.TheVariants as kind;
 ghost use Rattle.dart_tree.specs.Tree as t;
 ghost use Rattle.dart_tree.specs.declared.expression.Atom.TheVariants as a;
 ghost use Rattle.dart_tree.specs.declared.statement.Jump.TheVariants as j;
+ghost use Rattle.translation.specs.Classes.{super_of};
+ghost use Rattle.translation.specs.Expressions.{new_form};
 ghost use Rattle.translation.specs.Productions.{expr, stmt};
-ghost use Rattle.translation.specs.References.{truth};
-ghost use Rattle.translation.specs.Surroundings.{Text};
+ghost use Rattle.translation.specs.References.{truth, by_place};
+ghost use Rattle.translation.specs.Surroundings.{Text, Ty, Core};
+ghost use Rattle.translation.specs.Types.{tys};
 ghost use Rattle.translation.specs.Walk.{State, went, refused, bad_label, bad_word};
 
 /// `break;` outside of every loop and switch has no target.
@@ -57,4 +61,29 @@ pub fn while_is_a_loop()
             annotated = false;
           } ∷ [];
         }) }
+{}
+
+/// `new` of a class with a bound asks at its site for the type whose arguments are tested.
+pub fn bounds_ask_for_the_type()
+    ensures { (st : State) (place : Place) (n constructor : ℕ) (types : List Ty) →
+        new_form place n constructor types (by_place [])
+        (record st { tables = record st.tables { is_bounded = λ k. true }; sites = [] })
+        ≡ went
+        (c.at place (c.unary (c.check 0) (c.at place (c.new n constructor types c.no_cores []))))
+        (record st {
+          tables = record st.tables { is_bounded = λ k. true };
+          sites = record {
+            place = place;
+            kind = kind.Bound;
+            required = Some (class n (tys types));
+            annotated = false;
+          } ∷ [];
+        }) }
+{}
+
+/// What `super(..)` hands to the constructor of `Object` is evaluated, and nothing is called.
+pub fn object_is_handed_arguments()
+    ensures { (st : State) (word : Place) (first second : Core) →
+        super_of word (Some 0) None (λ st. went (by_place (first ∷ second ∷ [])) st) st
+        ≡ went (first ∷ second ∷ []) st }
 {}
