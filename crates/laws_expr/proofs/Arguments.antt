@@ -88,9 +88,6 @@ module _ {expr : Reader Token Expr} {p : Phrase Expr} (E : Reads expr p expr_fir
   name_begins : (t : Token) → has names (class_of t) ≡ true → Named.front (t ∷ [])
   name_begins t h = inl (inl (inr (name_of t, sym (name_said t h))))
 
-  abbrev label_parts : Identifier × Place → Label
-  label_parts x = record { name = x.0; colon = x.1 }
-
   named_refuses : (t u : Token) (ts : List Token) → has names (class_of t) ≡ true → has (these s.Colon) (class_of u) ≡ false → named_argument expr (t ∷ u ∷ ts) ≡ Err (u ∷ ts)
   unfolding named_argument label identifier
   named_refuses t u ts h off = rw (h, refuses (sign_reads s.Colon) (u ∷ ts) off) refl
@@ -118,9 +115,6 @@ module _ {expr : Reader Token Expr} {p : Phrase Expr} (E : Reads expr p expr_fir
       let one = one_name name.name in
       let two : one.0 ∷ sign_at name.colon s.Colon ∷ p.spelling e ≡ t ∷ [] = ap (λ (m : List Token). (m ++ sign_at name.colon s.Colon ∷ []) ++ p.spelling e) (sym one.1) ∙ ap spell is ∙ h in
       absurd cc
-
-  abbrev Both : Phrase Argument
-  Both = Named <|> Plain
 
   abbrev both_front : Front Token
   both_front = Either Named.front (Either (OneOf class_of names) Plain.front)
@@ -179,9 +173,6 @@ module _ {expr : Reader Token Expr} {p : Phrase Expr} (E : Reads expr p expr_fir
   more_laws : (n : Bool) → Laws class_of (many_from class_of (λ (m : Bool). these s.Comma) (λ m. both (sign s.Comma) (argument expr m)) may step n) (flat_map item_spell) (EachFitFrom ItemFits may step n) (SeveralFrom item_spell ItemFits may step item_front n) (these s.Comma) (λ all. behind_all) true
   more_laws n = wider (many_from_laws item_laws may step (λ m y fits on. apart_smaller (under y.1) (apart refl)) n) (within_self (these s.Comma)) (λ all fits. under_list n all)
 
-  abbrev Listed : Type 0
-  Listed = Argument × List (Place × Argument)
-
   abbrev ListFits : Argument × List (Place × Argument) → Type 0
   ListFits = BothFitBy (EitherFit Named.Fits Plain.Fits) (λ x. EachFitFrom ItemFits may step (is_labelled x))
 
@@ -203,12 +194,6 @@ module _ {expr : Reader Token Expr} {p : Phrase Expr} (E : Reads expr p expr_fir
 
   abbrev CommaPlain : Phrase (Place × Expr)
   CommaPlain = l.sign s.Comma ~ p
-
-  abbrev Nameds : Type 0
-  Nameds = List (Place × (Label × Expr))
-
-  abbrev Plains : Type 0
-  Plains = List (Place × Expr)
 
   abbrev as_nameds : List (Place × (Label × Expr)) → List (Place × Argument)
   as_nameds [] = []
@@ -313,12 +298,6 @@ module _ {expr : Reader Token Expr} {p : Phrase Expr} (E : Reads expr p expr_fir
   state_plain : (ps : List (Place × Expr)) (rest : List (Place × Argument)) → state_after step false (as_plains ps rest) ≡ state_after step false rest
   state_plain [] rest = refl
   state_plain (x ∷ more) rest = state_plain more rest
-
-  abbrev PlainsFront : Front Token
-  PlainsFront = (commas p ~ many (l.sign s.Comma ~ l.label ~ p)).front
-
-  abbrev NamedsFront : Front Token
-  NamedsFront = (commas (l.label ~ p)).front
 
   label_begun : (ts : List Token) → OneOf class_of names ts → Named.front ts
   label_begun ts (inl e) = subst Named.front (sym e) named_laws.none

@@ -1,72 +1,32 @@
 -- The law of what may be assigned to, with an assignment behind it or none (ECMA-408, 16.19 Assignment): `> >=` is read in halves.
-use Rattle.std.proofs.Common.{◌≡◌, ℕ, Bool, true, false, ◌&&◌, List, [], ◌∷◌, ◌++◌, Option, None, Some, Ok, Err, inl, inr, refl, ap, sym, ◌∙◌, subst, append_assoc}
+use Rattle.std.proofs.Common.{◌≡◌, ℕ, Bool, true, false, ◌&&◌, List, [], ◌∷◌, ◌++◌, Option, None, Some, Ok, Err, inl, inr, refl, ap, sym, ◌∙◌, append_assoc}
 use Rattle.std.proofs.lemmas.List.{append-nil}
 use Rattle.dart_base.specs.declared.place.Place.{Place}
 use Rattle.dart_token.specs.declared.token.Token.{Token}
-use Rattle.dart_token.specs.declared.sign.Sign.{Sign}
 use Rattle.dart_token.specs.declared.sign.Sign.TheVariants as s
 use Rattle.dart_tree.specs.declared.operator.Operator.{Operator}
 use Rattle.dart_tree.specs.declared.operator.Operator.TheVariants as o
 use Rattle.dart_tree.specs.LeafTokens.{sign_at, operator_tokens}
 use Rattle.dart_tree.specs.Tree.{Expr}
 use Rattle.dart_tree.specs.Tokens.{expr_tokens}
-use Rattle.grammar_laws.specs.Codes.{Apart, nowhere, given, after_followed_by}
+use Rattle.grammar_laws.specs.Codes.{Apart, given, after_followed_by}
 use Rattle.grammar_laws.specs.Readers.{Outcome, Reader, and_then, always, never, starts, when, continued_by}
-use Rattle.grammar_laws.specs.Fronts.{Front, Joint, JointBy, BothFit, ContinuedFitBy, Made, both_spelling, joined_spelling}
+use Rattle.grammar_laws.specs.Fronts.{Front, Joint, JointBy, BothFit, ContinuedFitBy, both_spelling, joined_spelling}
 use Rattle.grammar_laws.specs.Laws.{Laws}
-use Rattle.grammar_laws.proofs.Codes.{apart, apart_none, within_self}
-use Rattle.grammar_laws.proofs.Restated.{mapped_laws, made_laws, reread, refront}
+use Rattle.grammar_laws.proofs.Codes.{apart_none}
+use Rattle.grammar_laws.proofs.Restated.{refront}
 use Rattle.grammar_laws.proofs.Combined.{both_laws}
 use Rattle.grammar_laws.proofs.Continued.{continued_by_laws}
 use Rattle.grammar_laws.proofs.Tried.{stops_nowhere}
-use Rattle.dart_syntax.specs.Phrases.{Anything}
 use Rattle.dart_syntax.specs.Leaves as l
-use Rattle.dart_syntax.specs.Leaves.{sign_tokens}
 use Rattle.dart_syntax.specs.Expressions as g
 use Rattle.dart_syntax.specs.Expressions.{assignment_signs}
 use Rattle.token_codes.specs.Codes.{class_of, these, sign_codes}
-use Rattle.token_codes.proofs.Leaves.{sign_reads, Distinct, one_of_reads}
 use Rattle.syntax_readers.specs.Combinators.{Open}
 use Rattle.syntax_readers.specs.Primaries.{expr_first}
-use Rattle.syntax_readers.specs.Expressions.{Assigned, assign_codes, assignment_operator, assignment}
+use Rattle.syntax_readers.specs.Expressions.{Assigned, assign_codes, assignment}
 use Rattle.laws_expr.proofs.Open.{OpenLaws, open_spelling, half_tokens, after_open}
-
--- ---- the same reader, where trees that fit have these tokens too
-
-unchanged : {T A : Type 0} (r : Outcome T A) → r ≡ and_then r (λ a rest. Ok (a, rest))
-unchanged (Ok x) = refl
-unchanged (Err x) = refl
-
-pub respelled : {A : Type 0} {p : Reader Token A} {spell : A → List Token} {Fits : A → Type 0} {front : Front Token} {first : List ℕ} {next : A → List ℕ} → Laws class_of p spell Fits front first next false →
-    (other : A → List Token) → ((a : A) → Fits a → other a ≡ spell a) → Laws class_of p other Fits front first next false
-respelled {p = p} {next = next} P other said = reread (mapped_laws P (λ a. a) other next (λ a fits. (fits, said a fits, within_self (next a))) (λ a fits. (a, fits, refl))) (λ ts. unchanged (p ts))
-
--- ---- the operator, of which half may have been read
-
-abbrev pub second_tokens : Operator → List Token
-second_tokens (o.ShiftRightAssign first second) = sign_at second s.GreaterEqual ∷ []
-second_tokens x = operator_tokens x
-
-abbrev pub OperatorFits : Option Place → Operator → Type 0
-OperatorFits None = (l.one_of assignment_signs).Fits
-OperatorFits (Some first) = Made (o.ShiftRightAssign first) Anything
-
-abbrev pub operator_front : Option Place → Front Token
-operator_front None = (l.one_of assignment_signs).front
-operator_front (Some first) = (l.sign s.GreaterEqual).front
-
-pub one_of_said : (signs : List Sign) (x : Operator) → (l.one_of signs).Fits x → second_tokens x ≡ operator_tokens x
-one_of_said [] x fits = absurd fits
-one_of_said (y ∷ more) x (inl (place, fits, is)) = subst (λ z. second_tokens z ≡ operator_tokens z) is refl
-one_of_said (y ∷ more) x (inr fits) = one_of_said more x fits
-
-distinct_signs : Distinct assignment_signs
-distinct_signs = (apart refl, (apart refl, (apart refl, (apart refl, (apart refl, (apart refl, (apart refl, (apart refl, (apart refl, (apart refl, (apart refl, tt)))))))))))
-
-pub operator_laws : (h : Option Place) → Laws class_of (assignment_operator h) second_tokens (OperatorFits h) (operator_front h) (assign_codes h) nowhere false
-unfolding assignment_operator
-operator_laws None = respelled (one_of_reads assignment_signs distinct_signs) second_tokens (λ x fits. one_of_said assignment_signs x fits)
-operator_laws (Some first) = made_laws (sign_reads s.GreaterEqual) (o.ShiftRightAssign first) second_tokens nowhere (λ place fits. refl) (λ place fits. within_self [])
+use Rattle.laws_expr.proofs.Divided.{second_tokens, AssignFits, assign_front, assign_operator_laws, one_of_said}
 
 given_starts : (b : Bool) (codes : List ℕ) (ts : List Token) → starts class_of (given b codes) ts ≡ (b && starts class_of codes ts)
 given_starts true codes ts = refl
@@ -88,14 +48,14 @@ module _ {A : Type 0} (may : A → Bool) {base : Front Token} {read : Reader Tok
   assigned_spell = both_spelling second_tokens (open_spelling expr_tokens)
 
   abbrev pub AssignedFits : Open A → Assigned → Type 0
-  AssignedFits x = BothFit (OperatorFits x.1) W.Fits
+  AssignedFits x = BothFit (AssignFits x.1) W.Fits
 
   abbrev pub assigned_front : Open A → Front Token
-  assigned_front x = Joint second_tokens (OperatorFits x.1) always (operator_front x.1) efront
+  assigned_front x = Joint second_tokens (AssignFits x.1) always (assign_front x.1) efront
 
   pub assigned_laws : (x : Open A) → Laws class_of (assignment x.1 expr) assigned_spell (AssignedFits x) (assigned_front x) (codes x) (λ y. after_open after_e half_e y.1) false
   unfolding assignment
-  assigned_laws x = both_laws (operator_laws x.1) W.laws (λ y fits. apart_none expr_first)
+  assigned_laws x = both_laws (assign_operator_laws x.1) W.laws (λ y fits. apart_none expr_first)
 
   open_apart : (x : Open A) → H.Fits x → may_open x ≡ true → Apart (after_open next half x) (codes x)
   open_apart (x, None) fits on = off x (H.none_out x fits) on
@@ -131,11 +91,11 @@ module _ {A : Type 0} (may : A → Bool) {base : Front Token} {read : Reader Tok
   abbrev pub Said : Front Token
   Said = Joint tokens F may base Behind
 
-  no_half_out : (more : List Token) → Joint second_tokens (OperatorFits None) always (operator_front None) efront more → Behind more
+  no_half_out : (more : List Token) → Joint second_tokens (AssignFits None) always (assign_front None) efront more → Behind more
   no_half_out more (inl f) = inl (inl f)
   no_half_out more (inr (x, rest, fits, on, e, f)) = inr (x, rest, inl fits, on, e ∙ ap (λ (m : List Token). m ++ rest) (one_of_said assignment_signs x fits), f)
 
-  half_out : (first : Place) (more : List Token) → Joint second_tokens (OperatorFits (Some first)) always (operator_front (Some first)) efront more → Behind (half_tokens first ++ more)
+  half_out : (first : Place) (more : List Token) → Joint second_tokens (AssignFits (Some first)) always (assign_front (Some first)) efront more → Behind (half_tokens first ++ more)
   half_out first more (inl f) = inl (inr (inr (first, more, tt, refl, refl, f)))
   half_out first more (inr (x, rest, (second, at, is), on, e, f)) =
       inr (o.ShiftRightAssign first second, rest, inr ((first, second), (tt, tt), refl), refl, ap (λ (m : List Token). half_tokens first ++ m) (e ∙ ap (λ (y : Operator). second_tokens y ++ rest) (sym is)), f)

@@ -19,7 +19,7 @@ use Rattle.grammar_laws.proofs.Codes.{apart, apart_union, apart_smaller, clash, 
 use Rattle.grammar_laws.proofs.Restated.{made_laws, refront}
 use Rattle.grammar_laws.proofs.Followed.{followed_laws}
 use Rattle.grammar_laws.proofs.Repeated.{some_laws}
-use Rattle.dart_syntax.specs.Edges.{dots, question, binds_between, opens_nothing, expr_takes, operand_takes, cascades_take, leaves, leaves_cascade}
+use Rattle.dart_syntax.specs.Edges.{dots, question, opens_nothing, operand_takes, cascades_take, leaves, leaves_cascade}
 use Rattle.dart_syntax.specs.Edges as edge
 use Rattle.dart_syntax.specs.Agreement.{section_tokens}
 use Rattle.dart_syntax.specs.Expressions as g
@@ -30,10 +30,11 @@ use Rattle.syntax_readers.specs.Expressions.{Cascade, to_cascades, cascades, wit
 use Rattle.syntax_readers.specs.Levels.{LevelReaders}
 use Rattle.laws_expr.specs.Nexts.{Taking, nexts, taken, operand_alone, cascades_alone, after_operand, after_cascade, after_cascaded}
 use Rattle.laws_expr.proofs.Behind.{cascades_alone_within}
-use Rattle.laws_expr.proofs.Open.{OpenLaws, open_spelling, half_tokens, after_open, bare, tree, no_some}
+use Rattle.laws_expr.proofs.Open.{OpenLaws, open_spelling, half_tokens, after_open, bare, tree, no_some, tree_fits}
 use Rattle.laws_expr.proofs.Edges.{apart_but, within_at, taken_moves, cascades_moves}
-use Rattle.laws_expr.proofs.Chain.{not_false, half_of, half_moves, half_operand, looser, looser_half, left_apart}
+use Rattle.laws_expr.proofs.Chain.{half_of, half_moves, half_operand, looser, looser_half, left_apart}
 use Rattle.laws_expr.proofs.Cascades.{half_cascade}
+use Rattle.laws_expr.proofs.Sets.{not_false}
 
 -- what goes on behind cascades in the place of an expression
 abbrev pub after_cascades : Cascades → List ℕ
@@ -44,9 +45,6 @@ half_cascades x = half_of (λ next opens. cascades_take next opens dots x) (casc
 
 abbrev one_cascade : Place × (Selectors × Value) → Cascades
 one_cascade x = t.cascade x.0 x.1.0 x.1.1 t.no_cascades
-
-abbrev Section : Type 0
-Section = Place × (Selectors × Value)
 
 -- a cascade that leaves another does not take it
 no_dots : (x : Place × (Selectors × Value)) → leaves_cascade x ≡ true → Apart (after_cascade x) (these s.DotDot)
@@ -143,10 +141,6 @@ module _ (inner : ExprReaders) {C : Place × (Selectors × Value) → Type 0} {c
   unfolding cascades
   cascades_laws = some_laws L.laws may_follow item_apart
 
-  item_out : (x : Open Cascade) → L.Fits x → C x.0
-  item_out (x, None) fits = L.none_out x fits
-  item_out (x, Some g) fits = L.some_out x g fits
-
   may_drop : (x : Open Cascade) (b : Bool) → (may_follow x || b) ≡ true → (leaves_cascade x.0 || b) ≡ true
   may_drop (x, None) b h = h
   may_drop (x, Some g) b h = or_right (leaves_cascade x) b h
@@ -154,7 +148,7 @@ module _ (inner : ExprReaders) {C : Place × (Selectors × Value) → Type 0} {c
   -- which lists of cascades are read
   pub each_drop : (all : List (Open Cascade)) → EachFit L.Fits may_follow all → EachFit C leaves_cascade (drop all)
   each_drop [] fits = tt
-  each_drop (x ∷ more) fits = (item_out x fits.0, ap (λ b. leaves_cascade x.0 || b) (empty_drop more) ∙ may_drop x (is_empty more) fits.1, each_drop more fits.2)
+  each_drop (x ∷ more) fits = (tree_fits L x fits.0, ap (λ b. leaves_cascade x.0 || b) (empty_drop more) ∙ may_drop x (is_empty more) fits.1, each_drop more fits.2)
 
   pub each_keep : (all : List (Place × (Selectors × Value))) → EachFit C leaves_cascade all → EachFit L.Fits may_follow (keep all)
   each_keep [] fits = tt

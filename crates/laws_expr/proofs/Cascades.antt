@@ -33,13 +33,14 @@ use Rattle.syntax_readers.specs.Primaries.{ExprReaders, operand_first, expr_firs
 use Rattle.syntax_readers.specs.Expressions.{Assigned, Cascade, a_cascade, assign_codes, assignment, cascade_over}
 use Rattle.laws_expr.specs.Nexts.{Taking, nexts, taken, expr_alone, cascades_alone, after_without, after_cascade}
 use Rattle.laws_expr.proofs.Known.{ClosedRead}
-use Rattle.laws_expr.proofs.Open.{OpenLaws, Settled, stops_before, open_spelling, half_tokens, after_open, tree, no_some, shut_laws}
+use Rattle.laws_expr.proofs.Open.{OpenLaws, Settled, stops_before, open_spelling, half_tokens, after_open, tree, no_some, shut_laws, tree_fits}
 use Rattle.laws_expr.proofs.Edges.{within_at, taken_moves}
 use Rattle.laws_expr.proofs.Chain.{half_of, half_moves}
 use Rattle.laws_expr.proofs.Once.{half_without}
 use Rattle.laws_expr.proofs.Selectors.{section_laws}
 use Rattle.laws_expr.proofs.Halved.{halved_laws}
-use Rattle.laws_expr.proofs.Assigning.{OperatorFits, second_tokens, one_of_said, parts, same_parts, parts_spell, PartsFit, Said, parts_laws}
+use Rattle.laws_expr.proofs.Assigning.{parts, same_parts, parts_spell, PartsFit, Said, parts_laws}
+use Rattle.laws_expr.proofs.Divided.{AssignFits, second_tokens, one_of_said, assign_out}
 
 abbrev one_cascade : Place × (Selectors × Value) → t.Cascades
 one_cascade x = t.cascade x.0 x.1.0 x.1.1 t.no_cascades
@@ -136,18 +137,6 @@ module _ {inner : ExprReaders} {nodes : g.ExprNodes} (N : ClosedRead inner nodes
 
   -- ---- which trees
 
-  section_out : (x : Open Selectors) → section_half.Fits x → Section x.0
-  section_out (x, None) fits = section_half.none_out x fits
-  section_out (x, Some g) fits = section_half.some_out x g fits
-
-  value_out : (x : Open Expr) → W.Fits x → nodes.without.Fits x.0
-  value_out (x, None) fits = W.none_out x fits
-  value_out (x, Some g) fits = W.some_out x g fits
-
-  operator_out : (h : Option Place) (x : Operator) → OperatorFits h x → g.assigning.Fits x
-  operator_out None x fits = inl fits
-  operator_out (Some first) x (second, at, is) = inr ((first, second), (tt, tt), is)
-
   abbrev Of : Place × (Selectors × Value) → Type 0
   Of = (g.cascade_over nodes).Fits
 
@@ -158,10 +147,10 @@ module _ {inner : ExprReaders} {nodes : g.ExprNodes} (N : ClosedRead inner nodes
   Made_of = Made make (BothFit Anything Part)
 
   plain_of : (dots : Place) (x : Open Selectors) → section_half.Fits x → Of (dots, (x.0, t.omitted))
-  plain_of dots x fits = (tt, inl (section_out x fits, refl))
+  plain_of dots x fits = (tt, inl (tree_fits section_half x fits, refl))
 
-  value_of : (dots : Place) (x : Open Selectors) (operator : Operator) (e : Open Expr) → section_half.Fits x → selectors_assign x.0 ≡ true → OperatorFits x.1 operator → W.Fits e → Of (dots, (x.0, t.given (Some operator) e.0))
-  value_of dots x operator e fits on known value = (tt, inr ((section_out x fits, on), ((operator, e.0), (operator_out x.1 operator known, value_out e value), refl)))
+  value_of : (dots : Place) (x : Open Selectors) (operator : Operator) (e : Open Expr) → section_half.Fits x → selectors_assign x.0 ≡ true → AssignFits x.1 operator → W.Fits e → Of (dots, (x.0, t.given (Some operator) e.0))
+  value_of dots x operator e fits on known value = (tt, inr ((tree_fits section_half x fits, on), ((operator, e.0), (assign_out x.1 operator known, tree_fits W e value), refl)))
 
   abbrev as_value : Place → Selectors → Value → Open Cascade
   as_value dots x v = ((dots, (x, v)), None)

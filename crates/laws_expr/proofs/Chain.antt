@@ -1,5 +1,5 @@
 -- The law of a row of operators that stand behind one another (ECMA-408, 16.22 to 16.28), whatever its signs are.
-use Rattle.std.proofs.Common.{◌≡◌, ℕ, suc, max, ◌≤◌, ◌<◌, Bool, true, false, if◌then◌else◌, not, ◌&&◌, ◌||◌, List, [], ◌∷◌, ◌++◌, Option, None, Some, Ok, inl, inr, refl, ap, sym, ◌∙◌, subst, append_assoc, flat_map, arith}
+use Rattle.std.proofs.Common.{◌≡◌, ℕ, suc, max, ◌≤◌, ◌<◌, Bool, true, false, not, ◌&&◌, ◌||◌, List, [], ◌∷◌, ◌++◌, Option, None, Some, Ok, inl, inr, refl, ap, sym, ◌∙◌, subst, append_assoc, flat_map, arith}
 use Rattle.std.specs.Prelude.{nat_lt}
 use Rattle.std.proofs.Math.Nat.{le-max_right, max-le}
 use Rattle.std.proofs.lemmas.Bool.{ltb-true, lt-ltb}
@@ -21,7 +21,7 @@ use Rattle.grammar_laws.specs.Readers.{Outcome, Reader, and_then, always, some, 
 use Rattle.grammar_laws.specs.Halves.{no_half}
 use Rattle.grammar_laws.specs.Fronts.{Front, Joint, Several, Either, EitherFit, BothFit, GoesOn, FollowedFit, SomeFit, EachFit, Made, both_spelling, joined_spelling, option_spelling}
 use Rattle.grammar_laws.specs.Laws.{Laws}
-use Rattle.grammar_laws.proofs.Codes.{apart, apart_none, apart_smaller, apart_union, and_both, and_true, and_false, or_left, or_right, not_true, has_cases, clash, within_none, within_then, within_union, within_given, within_self, within_left, within_right}
+use Rattle.grammar_laws.proofs.Codes.{apart, apart_none, apart_smaller, apart_union, and_both, and_true, and_false, or_left, or_right, not_true, clash, within_none, within_then, within_union, within_given, within_left, within_right}
 use Rattle.grammar_laws.proofs.Depth.{below_is, is_below_by}
 use Rattle.grammar_laws.proofs.Restated.{made_laws, refront}
 use Rattle.grammar_laws.proofs.Combined.{both_laws}
@@ -39,9 +39,11 @@ use Rattle.syntax_readers.specs.Primaries.{operand_first}
 use Rattle.syntax_readers.specs.Levels.{Item, has_room, item_leaves, to_tails, joined, whole, chain}
 use Rattle.laws_expr.specs.Nexts.{Taking, nexts, taken, operand_alone, tails_alone, after_operand}
 use Rattle.laws_expr.proofs.Behind.{alone, operand_alone_within}
-use Rattle.laws_expr.proofs.Open.{OpenLaws, Settled, open_spelling, half_tokens, after_open, bare, tree, no_some}
+use Rattle.laws_expr.proofs.Open.{OpenLaws, Settled, open_spelling, half_tokens, after_open, bare, tree, no_some, tree_fits}
 use Rattle.laws_expr.proofs.Refined.{reads_half, half_read, sharp, sharp_within, sharp_apart, refined_laws}
 use Rattle.laws_expr.proofs.Edges.{at, codes_at, others_apart, apart_but, within_at, taken_moves, operand_moves}
+use Rattle.laws_expr.proofs.Sets.{given_more, not_false, not_either}
+use Rattle.laws_expr.proofs.Tails.{plain_spell, drop, no_between, ending, keep, tails_drop, tails_keep, empty_drop, empty_keep, last_of, last_fits}
 
 -- what may go on behind the half of an operator: its other half, an operand that is compared, or the rest of `> >=`
 abbrev pub half_of : Taking → List ℕ → List ℕ
@@ -49,11 +51,6 @@ half_of takes own = given (takes (sign_level s.ShiftLeft) opens_nothing) (these 
 
 abbrev pub half_operand : ℕ → Operand → List ℕ
 half_operand from x = half_of (λ next opens. operand_takes next opens from x) (operand_alone x)
-
-pub given_more : (b c : Bool) (xs : List ℕ) → (b ≡ true → c ≡ true) → Within (given b xs) (given c xs)
-given_more true true xs on = within_self xs
-given_more true false xs on = let bad : false ≡ true = on refl in absurd cc
-given_more false c xs on = within_none (given c xs)
 
 pub half_moves : (takes takes' : Taking) (own : List ℕ) → ((n : ℕ) (opens : TypeNode → Bool) → takes n opens ≡ true → takes' n opens ≡ true) → Within (half_of takes own) (half_of takes' own)
 half_moves takes takes' own on =
@@ -71,10 +68,6 @@ looser from to x le = within_union (within_then (taken_moves nexts (λ next open
 pub looser_half : (from to : ℕ) (x : Operand) → to ≤ from → Within (half_operand from x) (half_operand to x)
 looser_half from to x le = half_moves (λ next opens. operand_takes next opens from x) (λ next opens. operand_takes next opens to x) (operand_alone x) (λ n opens h. operand_moves n opens x from to (inl le) h)
 
-pub not_false : (b : Bool) → not b ≡ true → b ≡ false
-not_false true h = absurd cc
-not_false false h = refl
-
 -- what a tree leaves does not go on in a tighter place
 pub left_apart : (n from row : ℕ) (codes : List ℕ) (x : Operand) → n < from → others_apart row nexts codes ≡ true → ((takes : Taking) → at row nexts takes ≡ takes n opens_nothing) → disjoint alone codes ≡ true → leaves n x ≡ true → Apart (after_operand from x) codes
 left_apart n from row codes x lt others here own left =
@@ -83,43 +76,18 @@ left_apart n from row codes x lt others here own left =
       off false e = e
       off true e = clash (operand_takes n opens_nothing edge.nowhere x) (operand_moves n opens_nothing x from edge.nowhere (inr (inl lt)) e) (not_false (operand_takes n opens_nothing edge.nowhere x) left)
 
--- ---- the row
+-- behind the last operand of a row what goes on with the operand
+pub last_takes : (loose : ℕ) (o : Operator) (x : Operand) → level o ≡ loose → (next : ℕ) (opens : TypeNode → Bool) → operand_takes next opens (suc loose) x ≡ true → tails_take next opens loose (t.tail o x t.no_tails) ≡ true
+unfolding tails_take
+last_takes loose o x e next opens h =
+    let same : max loose (suc loose) ≡ suc loose = omega (arith, le-max_right loose (suc loose), max-le {a = loose} {b = suc loose} {k = suc loose} (omega arith) (omega arith)) in
+    or_right (binds_between next opens loose (level o)) ((binds_between next opens loose (suc (level o)) && repeats (level o)) || operand_takes next opens (max loose (suc (level o))) x)
+    (or_right (binds_between next opens loose (suc (level o)) && repeats (level o)) (operand_takes next opens (max loose (suc (level o))) x) (ap (λ (m : ℕ). operand_takes next opens m x) (ap (λ (m : ℕ). max loose (suc m)) e ∙ same) ∙ h))
 
-abbrev pub plain_spell : Operator × Operand → List Token
-plain_spell = both_spelling operator_tokens operand_tokens
+-- ---- the row
 
 abbrev item_spell : Item → List Token
 item_spell = both_spelling operator_tokens (open_spelling operand_tokens)
-
--- the operators and operands without the half behind the last
-abbrev pub drop : List Item → List (Operator × Operand)
-drop [] = []
-drop (x ∷ more) = (x.0, x.1.0) ∷ drop more
-
-abbrev keep : List (Operator × Operand) → List Item
-keep [] = []
-keep (x ∷ more) = (x.0, (x.1, None)) ∷ keep more
-
-pub tails_drop : (all : List Item) → g.to_tails (drop all) ≡ (to_tails all).0
-tails_drop [] = refl
-tails_drop (x ∷ more) = ap (t.tail x.0 x.1.0) (tails_drop more)
-
-tails_keep : (all : List (Operator × Operand)) → to_tails (keep all) ≡ (g.to_tails all, None)
-tails_keep [] = refl
-tails_keep (x ∷ []) = refl
-tails_keep (x ∷ y ∷ more) = ap (λ (z : Open Tails). (t.tail x.0 x.1 z.0, z.1)) (tails_keep (y ∷ more))
-
-pub empty_drop : (all : List Item) → is_empty (drop all) ≡ is_empty all
-empty_drop [] = refl
-empty_drop (x ∷ more) = refl
-
-empty_keep : (all : List (Operator × Operand)) → is_empty (keep all) ≡ is_empty all
-empty_keep [] = refl
-empty_keep (x ∷ more) = refl
-
-second_true : (h : Option Place) (x : Operand) (c : Bool) → (no_half (x, h) && c) ≡ true → (h ≡ None) × (c ≡ true)
-second_true None x c e = (refl, e)
-second_true (Some greater) x c e = absurd cc
 
 module _ (loose : ℕ) (n : ℕ) (signs : List Sign) (row : ℕ)
     (others : others_apart row nexts (sign_codes signs) ≡ true) (own : within (sign_codes signs) (codes_at row nexts) ≡ true) (here_row : (takes : Taking) → at row nexts takes ≡ takes loose opens_nothing)
@@ -179,21 +147,17 @@ module _ (loose : ℕ) (n : ℕ) (signs : List Sign) (row : ℕ)
   abbrev NodeFront : Front Token
   NodeFront = Joint operand_tokens D (leaves loose) dfront (Several plain_spell PlainFits leaves_item ItemFront)
 
-  low_out : (x : Open Operand) → L.Fits x → U x.0
-  low_out (x, None) fits = L.none_out x fits
-  low_out (x, Some greater) fits = L.some_out x greater fits
-
   may_drop : (x : Item) (b : Bool) → (may_item x || b) ≡ true → (leaves loose x.1.0 || b) ≡ true
   may_drop (o, (x, None)) b h = h
   may_drop (o, (x, Some greater)) b h = or_right (leaves loose x) b h
 
   each_drop : (all : List Item) → EachFit ItemFits may_item all → EachFit PlainFits leaves_item (drop all)
   each_drop [] fits = tt
-  each_drop (x ∷ more) fits = ((fits.0.0, low_out x.1 fits.0.1), ap (λ b. leaves loose x.1.0 || b) (empty_drop more) ∙ may_drop x (is_empty more) fits.1, each_drop more fits.2)
+  each_drop (x ∷ more) fits = ((fits.0.0, tree_fits L x.1 fits.0.1), ap (λ b. leaves loose x.1.0 || b) (empty_drop more) ∙ may_drop x (is_empty more) fits.1, each_drop more fits.2)
 
-  each_keep : (all : List (Operator × Operand)) → EachFit PlainFits leaves_item all → EachFit ItemFits may_item (keep all)
+  each_keep : (all : List (Operator × Operand)) → EachFit PlainFits leaves_item all → EachFit ItemFits may_item (keep no_between all)
   each_keep [] fits = tt
-  each_keep (x ∷ more) fits = ((fits.0.0, L.none_in x.1 fits.0.1), ap (λ b. leaves loose x.1 || b) (empty_keep more) ∙ fits.1, each_keep more fits.2)
+  each_keep (x ∷ more) fits = ((fits.0.0, L.none_in x.1 fits.0.1), ap (λ b. leaves loose x.1 || b) (empty_keep no_between more) ∙ fits.1, each_keep more fits.2)
 
   node_of : (x : Operand) (all : List Item) → H.Fits (x, None) → may (x, None) ≡ true → SomeFit ItemFits may_item all → Node (t.binary x (to_tails all).0)
   node_of x all fits on items =
@@ -205,7 +169,7 @@ module _ (loose : ℕ) (n : ℕ) (signs : List Sign) (row : ℕ)
   none_in z (inl fits) = (((z, None), None), (H.none_in z fits, tt), refl)
   none_in z (inr ((x, all), ((d, on), (some, each)), e)) =
       let u = up x d in
-      (((x, None), Some (keep all)), (H.none_in x u.0, (and_true (has_room n (x, None)) (leaves loose x) (is_below_by operand_height n x u.1) on, (empty_keep all ∙ some, each_keep all each))), ap (with_half (t.binary x)) (tails_keep all) ∙ ap bare e)
+      (((x, None), Some (keep no_between all)), (H.none_in x u.0, (and_true (has_room n (x, None)) (leaves loose x) (is_below_by operand_height n x u.1) on, (empty_keep no_between all ∙ some, each_keep all each))), ap (with_half (t.binary x)) (tails_keep no_between all some) ∙ ap bare e)
 
   none_out : (z : Operand) → Made joined PartsFit (z, None) → EitherFit F Node z
   none_out z (((x, None), None), fits, e) = inl (subst F (ap tree e) (H.none_out x fits.0))
@@ -247,15 +211,6 @@ module _ (loose : ℕ) (n : ℕ) (signs : List Sign) (row : ℕ)
   abbrev half_tails : Tails → List ℕ
   half_tails x = half_of (λ next opens. tails_take next opens loose x) (tails_alone x)
 
-  same_place : max loose (suc loose) ≡ suc loose
-  same_place = omega (arith, le-max_right loose (suc loose), max-le {a = loose} {b = suc loose} {k = suc loose} (omega arith) (omega arith))
-
-  last_takes : (o : Operator) (x : Operand) → level o ≡ loose → (next : ℕ) (opens : TypeNode → Bool) → operand_takes next opens (suc loose) x ≡ true → tails_take next opens loose (t.tail o x t.no_tails) ≡ true
-  unfolding tails_take
-  last_takes o x e next opens h =
-      or_right (binds_between next opens loose (level o)) ((binds_between next opens loose (suc (level o)) && repeats (level o)) || operand_takes next opens (max loose (suc (level o))) x)
-      (or_right (binds_between next opens loose (suc (level o)) && repeats (level o)) (operand_takes next opens (max loose (suc (level o))) x) (ap (λ (m : ℕ). operand_takes next opens m x) (ap (λ (m : ℕ). max loose (suc m)) e ∙ same_place) ∙ h))
-
   own_binds : (m : ℕ) → binds_between m opens_nothing m (suc m) ≡ true
   own_binds m = and_true (not (nat_lt m m)) (nat_lt m (suc m)) (not_below (nat_lt m m) refl) (lt-ltb m (suc m) (omega arith)) where
     not_below : (b : Bool) → nat_lt m m ≡ b → not b ≡ true
@@ -274,10 +229,10 @@ module _ (loose : ℕ) (n : ℕ) (signs : List Sign) (row : ℕ)
   list_on [] some fits = absurd cc
   list_on ((o, (x, None)) ∷ []) some fits =
       let takes : Taking = λ next opens. tails_take next opens loose (t.tail o x t.no_tails) in
-      within_union (within_union (within_then (taken_moves nexts (λ next opens. operand_takes next opens (suc loose) x) takes (last_takes o x (leveled o fits.0.0))) (within_left (taken takes) (operand_alone x))) (within_right (taken takes) (operand_alone x)))
+      within_union (within_union (within_then (taken_moves nexts (λ next opens. operand_takes next opens (suc loose) x) takes (last_takes loose o x (leveled o fits.0.0))) (within_left (taken takes) (operand_alone x))) (within_right (taken takes) (operand_alone x)))
       (within_given (leaves loose x) (λ e. within_then (within_at row nexts codes takes own (here_row takes ∙ own_again o x (leveled o fits.0.0))) (within_left (taken takes) (operand_alone x))))
   list_on ((o, (x, Some greater)) ∷ []) some fits =
-      within_union (half_moves (λ next opens. operand_takes next opens (suc loose) x) (λ next opens. tails_take next opens loose (t.tail o x t.no_tails)) (operand_alone x) (last_takes o x (leveled o fits.0.0))) (within_none (half_of (λ next opens. tails_take next opens loose (t.tail o x t.no_tails)) (operand_alone x)))
+      within_union (half_moves (λ next opens. operand_takes next opens (suc loose) x) (λ next opens. tails_take next opens loose (t.tail o x t.no_tails)) (operand_alone x) (last_takes loose o x (leveled o fits.0.0))) (within_none (half_of (λ next opens. tails_take next opens loose (t.tail o x t.no_tails)) (operand_alone x)))
   list_on ((o, (x, h)) ∷ y ∷ []) some fits = list_on (y ∷ []) refl fits.2
   list_on ((o, (x, h)) ∷ y ∷ z ∷ more) some fits = list_on (y ∷ z ∷ more) refl fits.2
 
@@ -302,11 +257,11 @@ module _ (loose : ℕ) (n : ℕ) (signs : List Sign) (row : ℕ)
       ((((go.0.0.0, L.none_out x go.0.0.1), go.0.1), w.0), ap (λ (m : List Token). (operator_tokens o ++ m) ++ flat_map item_spell more) (append-nil (operand_tokens x)) ∙ ap (λ (m : List Token). (operator_tokens o ++ operand_tokens x) ++ m) w.1)
   go_drop ((o, (x, Some greater)) ∷ more) go = let bad : false ≡ true = go.0.1 in absurd cc
 
-  go_keep : (all : List (Operator × Operand)) → AllByRecursion (GoesOn PlainFits leaves_item) all → AllByRecursion (GoesOn ItemFits may_item) (keep all) × (flat_map plain_spell all ≡ flat_map item_spell (keep all))
+  go_keep : (all : List (Operator × Operand)) → AllByRecursion (GoesOn PlainFits leaves_item) all → AllByRecursion (GoesOn ItemFits may_item) (keep no_between all) × (flat_map plain_spell all ≡ flat_map item_spell (keep no_between all))
   go_keep [] go = (tt, refl)
   go_keep (x ∷ more) go =
       let w = go_keep more go.1 in
-      ((((go.0.0.0, L.none_in x.1 go.0.0.1), go.0.1), w.0), ap (λ (m : List Token). (operator_tokens x.0 ++ operand_tokens x.1) ++ m) w.1 ∙ ap (λ (m : List Token). (operator_tokens x.0 ++ m) ++ flat_map item_spell (keep more)) (sym (append-nil (operand_tokens x.1))))
+      ((((go.0.0.0, L.none_in x.1 go.0.0.1), go.0.1), w.0), ap (λ (m : List Token). (operator_tokens x.0 ++ operand_tokens x.1) ++ m) w.1 ∙ ap (λ (m : List Token). (operator_tokens x.0 ++ m) ++ flat_map item_spell (keep no_between more)) (sym (append-nil (operand_tokens x.1))))
 
   abbrev PartsFront : Front Token
   PartsFront = Joint (open_spelling operand_tokens) H.Fits may front (Several item_spell ItemFits may_item ItemFront)
@@ -325,7 +280,7 @@ module _ (loose : ℕ) (n : ℕ) (signs : List Sign) (row : ℕ)
   into ts (inr (inr (x, more, d, on, e, (all, rest, go, e', f)))) =
       let u = up x d in
       let k = go_keep all go in
-      inr ((x, None), more, H.none_in x u.0, and_true (has_room n (x, None)) (leaves loose x) (is_below_by operand_height n x u.1) on, e ∙ ap (λ (m : List Token). m ++ more) (sym (append-nil (operand_tokens x))), (keep all, rest, k.0, e' ∙ ap (λ (m : List Token). m ++ rest) k.1, f))
+      inr ((x, None), more, H.none_in x u.0, and_true (has_room n (x, None)) (leaves loose x) (is_below_by operand_height n x u.1) on, e ∙ ap (λ (m : List Token). m ++ more) (sym (append-nil (operand_tokens x))), (keep no_between all, rest, k.0, e' ∙ ap (λ (m : List Token). m ++ rest) k.1, f))
 
   pub chain_laws : OpenLaws (chain loose n signs here lower) operand_tokens (EitherFit F Node) (Either front NodeFront) first (after_operand loose) (half_operand loose)
   unfolding chain
@@ -352,28 +307,10 @@ module _ (loose : ℕ) (n : ℕ) (signs : List Sign) (row : ℕ)
       ap (λ (r : Outcome Token (Open Operand)). and_then (and_then r (λ a mid. and_then (when (may a && starts class_of codes mid) items_reader mid) (λ o z. Ok ((a, o), z)))) (λ y z. Ok (joined y, z))) (stays g ts)
       ∙ ap (λ (c : Bool). stopped x c (sign_at g s.Greater ∷ ts)) (and_false (may (x, None)) (has codes (sign_code s.Greater)) no_greater))
 
-  -- with this half behind the last
-  abbrev keep_half : Option Place → List (Operator × Operand) → List Item
-  keep_half h [] = []
-  keep_half h (x ∷ more) = (x.0, (x.1, if is_empty more then h else None)) ∷ keep_half h more
-
-  abbrev pub last_of : Operand → List (Operator × Operand) → Operand
-  last_of x [] = x
-  last_of x (y ∷ more) = last_of y.1 more
-
-  tails_half : (h : Option Place) (all : List (Operator × Operand)) → is_empty all ≡ false → to_tails (keep_half h all) ≡ (g.to_tails all, h)
-  tails_half h [] some = absurd cc
-  tails_half h (x ∷ []) some = refl
-  tails_half h (x ∷ y ∷ more) some = ap (λ (z : Open Tails). (t.tail x.0 x.1 z.0, z.1)) (tails_half h (y ∷ more) refl)
-
-  each_half : (h : Option Place) (x : Operand) (all : List (Operator × Operand)) → EachFit PlainFits leaves_item all → L.Fits (last_of x all, h) → EachFit ItemFits may_item (keep_half h all)
+  each_half : (h : Option Place) (x : Operand) (all : List (Operator × Operand)) → EachFit PlainFits leaves_item all → L.Fits (last_of x all, h) → EachFit ItemFits may_item (keep (ending h no_between) all)
   each_half h x [] fits last = tt
   each_half h x (y ∷ []) fits last = ((fits.0.0, last), or_right (may_item (y.0, (y.1, h))) true refl, tt)
   each_half h x (y ∷ z ∷ more) fits last = ((fits.0.0, L.none_in y.1 fits.0.1), fits.1, each_half h y.1 (z ∷ more) fits.2 last)
-
-  some_half : (h : Option Place) (all : List (Operator × Operand)) → is_empty all ≡ false → is_empty (keep_half h all) ≡ false
-  some_half h [] e = e
-  some_half h (x ∷ more) e = refl
 
   module _ (asks : Operand → Bool) (settled : (x : Operand) → U x → asks x ≡ true → Settled L x) where
     abbrev next_low : Open Operand → List ℕ
@@ -386,45 +323,37 @@ module _ (loose : ℕ) (n : ℕ) (signs : List Sign) (row : ℕ)
     sharp_items : Laws class_of items_reader (flat_map item_spell) (SomeFit ItemFits may_item) (Several item_spell ItemFits may_item ItemFront) codes (after_list codes may_item (λ y. next_low y.1)) false
     sharp_items = some_laws (both_laws O (refined_laws L asks settled) (λ o fits. apart_none ufirst)) may_item sharp_item
 
-    not_either : (xs ys : List ℕ) (m : ℕ) → has xs m ≡ false → has ys m ≡ false → has (xs ++ ys) m ≡ false
-    not_either xs ys m a b = not_true (has (xs ++ ys) m) (λ h. elim (has_cases xs ys m h) [ inl k ↦ clash (has xs m) k a | inr k ↦ clash (has ys m) k b ])
-
     given_none : (b : Bool) → has (given b codes) (sign_code s.Greater) ≡ false
     given_none true = no_greater
     given_none false = refl
 
-    stop : (x : Operand) (all : List (Operator × Operand)) → is_empty all ≡ false → asks (last_of x all) ≡ true → reads_half L (last_of x all) ≡ false → has (after_list codes may_item (λ (y : Item). next_low y.1) (keep all)) (sign_code s.Greater) ≡ false
+    stop : (x : Operand) (all : List (Operator × Operand)) → is_empty all ≡ false → asks (last_of x all) ≡ true → reads_half L (last_of x all) ≡ false → has (after_list codes may_item (λ (y : Item). next_low y.1) (keep no_between all)) (sign_code s.Greater) ≡ false
     stop x [] some on none = absurd cc
     stop x (y ∷ []) some on none =
         not_either (sharp L asks settled y.1) (given (may_item (y.0, (y.1, None))) codes) (sign_code s.Greater)
         (not_true (has (sharp L asks settled y.1) (sign_code s.Greater)) (λ h. (sharp_apart L asks settled y.1 on none).never_both (sign_code s.Greater) h refl)) (given_none (may_item (y.0, (y.1, None))))
     stop x (y ∷ z ∷ more) some on none = stop y.1 (z ∷ more) refl on none
 
-    last_fits : (x : Operand) (all : List (Operator × Operand)) → is_empty all ≡ false → EachFit PlainFits leaves_item all → U (last_of x all)
-    last_fits x [] some fits = absurd cc
-    last_fits x (y ∷ []) some fits = fits.0.1
-    last_fits x (y ∷ z ∷ more) some fits = last_fits y.1 (z ∷ more) refl fits.2
+    node_parts : (x : Operand) (h : Option Place) (all : List (Operator × Operand)) → D x → leaves loose x ≡ true → SomeFit PlainFits leaves_item all → L.Fits (last_of x all, h) → PartsFit ((x, None), Some (keep (ending h no_between) all))
+    node_parts x h all d on fits last = (H.none_in x (up x d).0, (and_true (has_room n (x, None)) (leaves loose x) (is_below_by operand_height n x (up x d).1) on, (empty_keep (ending h no_between) all ∙ fits.0, each_half h x all fits.1 last)))
 
-    node_parts : (x : Operand) (h : Option Place) (all : List (Operator × Operand)) → D x → leaves loose x ≡ true → SomeFit PlainFits leaves_item all → L.Fits (last_of x all, h) → PartsFit ((x, None), Some (keep_half h all))
-    node_parts x h all d on fits last = (H.none_in x (up x d).0, (and_true (has_room n (x, None)) (leaves loose x) (is_below_by operand_height n x (up x d).1) on, (some_half h all fits.0, each_half h x all fits.1 last)))
-
-    plain_parts : (x : Operand) (all : List (Operator × Operand)) → D x → leaves loose x ≡ true → SomeFit PlainFits leaves_item all → PartsFit ((x, None), Some (keep all))
-    plain_parts x all d on fits = (H.none_in x (up x d).0, (and_true (has_room n (x, None)) (leaves loose x) (is_below_by operand_height n x (up x d).1) on, (empty_keep all ∙ fits.0, each_keep all fits.1)))
+    plain_parts : (x : Operand) (all : List (Operator × Operand)) → D x → leaves loose x ≡ true → SomeFit PlainFits leaves_item all → PartsFit ((x, None), Some (keep no_between all))
+    plain_parts x all d on fits = (H.none_in x (up x d).0, (and_true (has_room n (x, None)) (leaves loose x) (is_below_by operand_height n x (up x d).1) on, (empty_keep no_between all ∙ fits.0, each_keep all fits.1)))
 
     stays_read : (x : Operand) (all : List (Operator × Operand)) → D x → leaves loose x ≡ true → SomeFit PlainFits leaves_item all → asks (last_of x all) ≡ true → reads_half L (last_of x all) ≡ false → (place : Place) (ts : List Token) →
         chain loose n signs here lower (open_spelling operand_tokens (t.binary x (g.to_tails all), None) ++ sign_at place s.Greater ∷ ts) ≡ Ok ((t.binary x (g.to_tails all), None), sign_at place s.Greater ∷ ts)
     unfolding chain class_of
     stays_read x all d on fits asked none place ts =
-        let parts : Open Operand × Option (List Item) = ((x, None), Some (keep all)) in
-        let known : PartsFit ((x, None), Some (keep all)) = plain_parts x all d on fits in
-        let made : joined ((x, None), Some (keep all)) ≡ (t.binary x (g.to_tails all), None) = ap (with_half (t.binary x)) (tails_keep all) in
-        ap (λ (m : List Token). chain loose n signs here lower (m ++ sign_at place s.Greater ∷ ts)) (ap (open_spelling operand_tokens) (sym made) ∙ parts_said ((x, None), Some (keep all)) known)
-        ∙ ap (λ (r : Outcome Token (Open Operand × Option (List Item))). and_then r (λ y z. Ok (joined y, z))) ((followed_laws H.laws sharp_items may here_apart).complete ((x, None), Some (keep all)) (sign_at place s.Greater ∷ ts) known (stop x all fits.0 asked none))
+        let parts : Open Operand × Option (List Item) = ((x, None), Some (keep no_between all)) in
+        let known : PartsFit ((x, None), Some (keep no_between all)) = plain_parts x all d on fits in
+        let made : joined ((x, None), Some (keep no_between all)) ≡ (t.binary x (g.to_tails all), None) = ap (with_half (t.binary x)) (tails_keep no_between all fits.0) in
+        ap (λ (m : List Token). chain loose n signs here lower (m ++ sign_at place s.Greater ∷ ts)) (ap (open_spelling operand_tokens) (sym made) ∙ parts_said ((x, None), Some (keep no_between all)) known)
+        ∙ ap (λ (r : Outcome Token (Open Operand × Option (List Item))). and_then r (λ y z. Ok (joined y, z))) ((followed_laws H.laws sharp_items may here_apart).complete ((x, None), Some (keep no_between all)) (sign_at place s.Greater ∷ ts) known (stop x all fits.0 asked none))
         ∙ ap (λ (y : Open Operand). gave y (sign_at place s.Greater ∷ ts)) made
 
     pub node_settled : (x : Operand) (all : List (Operator × Operand)) → D x → leaves loose x ≡ true → SomeFit PlainFits leaves_item all → asks (last_of x all) ≡ true → Settled chain_laws (t.binary x (g.to_tails all))
     unfolding chain_laws
     node_settled x all d on fits asked = by_half (reads_half L (last_of x all)) refl where
       by_half : (b : Bool) → reads_half L (last_of x all) ≡ b → Settled chain_laws (t.binary x (g.to_tails all))
-      by_half true e = inl (λ place. (((x, None), Some (keep_half (Some place) all)), node_parts x (Some place) all d on fits (half_read L (last_of x all) (settled (last_of x all) (last_fits x all fits.0 fits.1) asked) e place), ap (with_half (t.binary x)) (tails_half (Some place) all fits.0)))
+      by_half true e = inl (λ place. (((x, None), Some (keep (ending (Some place) no_between) all)), node_parts x (Some place) all d on fits (half_read L (last_of x all) (settled (last_of x all) (last_fits Of U leaves_item x all fits.0 fits.1) asked) e place), ap (with_half (t.binary x)) (tails_keep (ending (Some place) no_between) all fits.0)))
       by_half false e = inr (λ place ts. stays_read x all d on fits asked e place ts)

@@ -5,7 +5,6 @@ use Rattle.dart_token.specs.declared.sign.Sign.TheVariants as s
 use Rattle.dart_tree.specs.LeafTokens.{type_tokens, type_list_tokens}
 use Rattle.dart_tree.specs.Types.{TypeNode, TypeArguments, TypeList, no_types, listed_types, type_more, no_more_types}
 use Rattle.dart_tree.specs.Tree as t
-use Rattle.dart_tree.specs.Tree.{Expr, Primary, Items, Entries}
 use Rattle.dart_tree.specs.Tokens.{primary_tokens, items_tokens, entries_tokens}
 use Rattle.grammar_laws.specs.Codes.{Apart, nowhere}
 use Rattle.grammar_laws.specs.Readers.{mapped}
@@ -15,7 +14,6 @@ use Rattle.grammar_laws.proofs.Restated.{made_laws}
 use Rattle.grammar_laws.proofs.Combined.{both_laws, both_any_laws}
 use Rattle.dart_syntax.specs.Phrases.{Phrase, ◌~◌, perhaps, opt, made}
 use Rattle.dart_syntax.specs.Types as y
-use Rattle.dart_syntax.specs.Types.{pair_of_types}
 use Rattle.dart_syntax.specs.Expressions as g
 use Rattle.dart_syntax.specs.Expressions.{plain_items, to_entries, a_list, a_map}
 use Rattle.dart_syntax.specs.Leaves as l

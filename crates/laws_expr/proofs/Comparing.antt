@@ -1,21 +1,22 @@
 -- What may stand behind the first operand of a comparison (ECMA-408, 16.24 Relational Expressions, 16.34 Type Test, 16.35 Type Cast), and which
 -- operators come: an operator with its operand or its type, or, behind a half that was read, an operand alone.
-use Rattle.std.proofs.Common.{◌≡◌, ℕ, Bool, true, false, List, [], ◌∷◌, ◌++◌, Option, None, Some, ◌⊎◌, inl, inr, refl, ap, sym, subst}
+use Rattle.std.proofs.Common.{◌≡◌, ℕ, Bool, true, false, List, [], ◌∷◌, ◌++◌, Option, None, Some, ◌⊎◌, inl, inr, refl, ap, sym, subst, Ok, Err, arith}
 use Rattle.dart_base.specs.declared.place.Place.{Place}
 use Rattle.dart_token.specs.declared.token.Token.{Token}
 use Rattle.dart_token.specs.declared.sign.Sign.TheVariants as s
 use Rattle.dart_token.specs.declared.word.Word.TheVariants as w
 use Rattle.dart_tree.specs.declared.operator.Operator.{Operator}
+use Rattle.dart_tree.specs.declared.operator.Operator.TheVariants as o
 use Rattle.dart_tree.specs.LeafTokens.{operator_tokens, type_tokens}
 use Rattle.dart_tree.specs.Types.{TypeNode, dynamic_type, named_type, no_types, listed_types}
 use Rattle.dart_tree.specs.Tree as t
 use Rattle.dart_tree.specs.Tree.{Operand}
 use Rattle.dart_tree.specs.Tokens.{operand_tokens}
 use Rattle.grammar_laws.specs.Codes.{has, Apart, Within, nowhere, given, after_option}
-use Rattle.grammar_laws.specs.Readers.{Reader, always, mapped, option}
+use Rattle.grammar_laws.specs.Readers.{Reader, always, mapped, option, Outcome, and_then, starts}
 use Rattle.grammar_laws.specs.Fronts.{Front, Joint, Either, EitherFit, BothFit, OptionFit, Made, both_spelling, option_spelling}
 use Rattle.grammar_laws.specs.Laws.{Laws}
-use Rattle.grammar_laws.proofs.Codes.{apart, apart_none, has_cases, has_left, has_right, has_given, given_has, inside, within_none, within_then, within_union, within_given, within_self, within_left}
+use Rattle.grammar_laws.proofs.Codes.{apart, apart_none, has_cases, has_left, has_right, has_given, given_has, inside, within_none, within_then, within_union, within_given, within_self, within_left, clash, not_true, within_right}
 use Rattle.grammar_laws.proofs.Restated.{made_laws, mapped_laws, refit, refront, wider}
 use Rattle.grammar_laws.proofs.Combined.{both_laws, both_any_laws}
 use Rattle.grammar_laws.proofs.Chosen.{by_first_laws}
@@ -23,20 +24,24 @@ use Rattle.grammar_laws.proofs.Followed.{option_laws}
 use Rattle.dart_syntax.specs.Phrases.{Anything}
 use Rattle.dart_syntax.specs.Leaves as l
 use Rattle.dart_syntax.specs.Leaves.{sign_tokens, word_tokens}
-use Rattle.dart_syntax.specs.Edges.{opens_less, opens_dot, operand_takes}
+use Rattle.dart_syntax.specs.Edges.{opens_less, opens_dot, operand_takes, tails_take}
+use Rattle.dart_syntax.specs.Edges as edge
 use Rattle.dart_syntax.specs.Levels.{level}
 use Rattle.token_codes.specs.Codes.{class_of, sign_code, word_code, these, this_word, sign_codes}
 use Rattle.token_codes.specs.Leaves.{sign, word, one_of}
 use Rattle.token_codes.proofs.Leaves.{Distinct, sign_reads, word_reads, one_of_reads}
-use Rattle.syntax_readers.specs.Combinators.{◌~◌, made₂, made₃, Open}
+use Rattle.syntax_readers.specs.Combinators.{◌~◌, made₂, made₃, Open, with_half}
 use Rattle.syntax_readers.specs.Primaries.{operand_first}
 use Rattle.syntax_readers.specs.Types.{type_first}
-use Rattle.syntax_readers.specs.Levels.{whole, comparing, Compared, compared, tested, cast, compared_with}
+use Rattle.syntax_readers.specs.Levels.{whole, comparing, Compared, compared, tested, cast, compared_with, joined_compared}
 use Rattle.laws_type.specs.Nexts.{after_type}
 use Rattle.laws_expr.specs.Nexts.{Taking, nexts, taken, operand_alone, after_operand}
 use Rattle.laws_expr.proofs.Open.{OpenLaws, open_spelling, after_open}
-use Rattle.laws_expr.proofs.Edges.{within_at}
-use Rattle.laws_expr.proofs.Chain.{half_operand}
+use Rattle.laws_expr.proofs.Edges.{within_at, taken_moves, operand_moves}
+use Rattle.laws_expr.proofs.Chain.{half_operand, half_moves, last_takes}
+use Rattle.dart_token.specs.declared.word.Word.{Word}
+use Rattle.grammar_laws.proofs.Joints.{begins}
+use Rattle.laws_expr.proofs.Refined.{origin}
 
 -- ---- what goes on behind a type, and behind the two trees that end in one
 
@@ -66,6 +71,9 @@ as_on x place of = by_type of (λ next opens. operand_takes next opens 5 (t.as_t
 abbrev pub others : List ℕ
 others = sign_codes (s.LessEqual ∷ s.GreaterEqual ∷ [])
 
+abbrev pub rest_codes : List ℕ
+rest_codes = sign_code s.Greater ∷ others
+
 abbrev pub types : List ℕ
 types = word_code w.Is ∷ word_code w.As ∷ []
 
@@ -78,10 +86,6 @@ Lesser = (l.one_of (s.Less ∷ [])).Fits
 
 abbrev pub Rest : Operator → Type 0
 Rest = (l.one_of (s.Greater ∷ s.LessEqual ∷ s.GreaterEqual ∷ [])).Fits
-
-pub less_level : (x : Operator) → Lesser x → level x ≡ 5
-less_level x (inl (place, fits, is)) = ap level (sym is)
-less_level x (inr none) = absurd none
 
 pub rest_level : (x : Operator) → Rest x → level x ≡ 5
 rest_level x (inl (place, fits, is)) = ap level (sym is)
@@ -112,6 +116,84 @@ after_behind (inl y) = after_open (after_operand 6) (half_operand 6) y
 after_behind (inr (compared operator y)) = after_open (after_operand 6) (half_operand 6) y
 after_behind (inr (tested place bang of)) = after_type of
 after_behind (inr (cast place of)) = after_type of
+
+-- ---- the grammar's nodes
+
+abbrev pub item_node : Operand × (Operator × Operand) → Operand
+item_node x = t.binary x.0 (t.tail x.1.0 x.1.1 t.no_tails)
+
+abbrev pub is_node : Operand × (Place × (Option Place × TypeNode)) → Operand
+is_node x = t.is_type x.0 x.1.0 x.1.1.0 x.1.1.1
+
+abbrev pub as_node : Operand × (Place × TypeNode) → Operand
+as_node x = t.as_type x.0 x.1.0 x.1.1
+
+-- the operator of which the half was read
+abbrev pub greater_of : Option Place → Operator
+greater_of None = o.Sign origin s.Greater
+greater_of (Some g) = o.Sign g s.Greater
+
+abbrev pub join : Open Operand × Option Behind → Open Operand
+join (x, None) = x
+join (x, Some (inl y)) = with_half (λ z. t.binary x.0 (t.tail (greater_of x.1) z t.no_tails)) y
+join (x, Some (inr (compared operator y))) = with_half (λ z. t.binary x.0 (t.tail operator z t.no_tails)) y
+join (x, Some (inr (tested place bang of))) = (t.is_type x.0 place bang of, None)
+join (x, Some (inr (cast place of))) = (t.as_type x.0 place of, None)
+
+pub item_on : (x : Operand) (operator : Operator) (y : Open Operand) → level operator ≡ 5 → Within (after_open (after_operand 6) (half_operand 6) y) (after_open (after_operand 5) (half_operand 5) (with_half (λ z. t.binary x (t.tail operator z t.no_tails)) y))
+unfolding operand_takes operand_alone
+item_on x operator (y, None) e =
+    let takes : Taking = λ next opens. tails_take next opens 5 (t.tail operator y t.no_tails) in
+    within_union (within_then (taken_moves nexts (λ next opens. operand_takes next opens 6 y) takes (last_takes 5 operator y e)) (within_left (taken takes) (operand_alone y))) (within_right (taken takes) (operand_alone y))
+item_on x operator (y, Some g) e = half_moves (λ next opens. operand_takes next opens 6 y) (λ next opens. tails_take next opens 5 (t.tail operator y t.no_tails)) (operand_alone y) (last_takes 5 operator y e)
+
+pub left_off : (opens : TypeNode → Bool) (x : Operand) → operand_takes 5 opens edge.nowhere x ≡ false → operand_takes 5 opens 6 x ≡ false
+left_off opens x left = not_true (operand_takes 5 opens 6 x) (λ e. clash (operand_takes 5 opens edge.nowhere x) (operand_moves 5 opens x 6 edge.nowhere (inr (inl (omega arith))) e) left)
+
+-- no `>` goes on behind a type
+pub type_closed : (a b : Bool) → has ((given a (these s.Less) ++ (given b (these s.Dot) ++ [])) ++ []) (sign_code s.Greater) ≡ false
+type_closed true true = refl
+type_closed true false = refl
+type_closed false true = refl
+type_closed false false = refl
+
+-- ---- the two ways in which it is read
+
+abbrev pub raw_half : Operand → Place → Outcome Token (Open Operand) → Outcome Token (Open Operand)
+raw_half x g r = and_then (and_then (and_then (and_then r (λ y rest. Ok (compared (o.Sign g s.Greater) y, rest))) (λ y rest. Ok (Some y, rest))) (λ y rest. Ok (((x, Some g), y), rest))) (λ y rest. Ok (joined_compared y, rest))
+
+abbrev pub own_half : Operand → Place → Outcome Token (Open Operand) → Outcome Token (Open Operand)
+own_half x g r = and_then (and_then (and_then (and_then r (λ y rest. Ok (inl y, rest))) (λ y rest. Ok (Some y, rest))) (λ y rest. Ok (((x, Some g), y), rest))) (λ y rest. Ok (join y, rest))
+
+pub same_half : (x : Operand) (g : Place) (r : Outcome Token (Open Operand)) → raw_half x g r ≡ own_half x g r
+same_half x g (Ok y) = refl
+same_half x g (Err rest) = refl
+
+abbrev pub raw_none : Operand → Outcome Token Compared → Outcome Token (Open Operand)
+raw_none x r = and_then (and_then (and_then r (λ y rest. Ok (Some y, rest))) (λ y rest. Ok (((x, None), y), rest))) (λ y rest. Ok (joined_compared y, rest))
+
+abbrev pub own_none : Operand → Outcome Token Compared → Outcome Token (Open Operand)
+own_none x r = and_then (and_then (and_then (and_then r (λ c rest. Ok (inr c, rest))) (λ y rest. Ok (Some y, rest))) (λ y rest. Ok (((x, None), y), rest))) (λ y rest. Ok (join y, rest))
+
+pub same_none : (x : Operand) (r : Outcome Token Compared) → raw_none x r ≡ own_none x r
+same_none x (Ok (compared operator y, rest)) = refl
+same_none x (Ok (tested place bang of, rest)) = refl
+same_none x (Ok (cast place of, rest)) = refl
+same_none x (Err rest) = refl
+
+-- what begins an operator of a kind
+pub lesser_begins : (op : Operator) (rest : List Token) → Lesser op → starts class_of (these s.Less) (operator_tokens op ++ rest) ≡ true
+lesser_begins op rest fits = begins (one_of_reads (s.Less ∷ []) (apart refl, tt)) op rest fits
+
+pub rest_begins : (op : Operator) (rest : List Token) → Rest op → starts class_of rest_codes (operator_tokens op ++ rest) ≡ true
+rest_begins op rest fits = begins (one_of_reads (s.Greater ∷ s.LessEqual ∷ s.GreaterEqual ∷ []) (apart refl, (apart refl, (apart refl, tt)))) op rest fits
+
+pub word_begins : (which : Word) (place : Place) (rest : List Token) → starts class_of (this_word which) (word_tokens which place ++ rest) ≡ true
+word_begins which place rest = begins (word_reads which) place rest tt
+
+pub widen : (xs ys : List ℕ) (ts : List Token) → Within xs ys → starts class_of xs ts ≡ true → starts class_of ys ts ≡ true
+widen xs ys [] sub e = absurd cc
+widen xs ys (u ∷ ts) sub e = sub.in_second (class_of u) e
 
 -- ---- the readers of what stands behind the first operand
 
@@ -226,9 +308,6 @@ module _ {type : Reader Token TypeNode} {T : TypeNode → Type 0} {tfront : Fron
 abbrev pub mix : Bool → Bool → Bool → Bool → Bool → List ℕ
 mix r l k c d = given r (given l (these s.Less) ++ (given k (these s.Greater) ++ (given c others ++ given d types)))
 
-abbrev pub rest_codes : List ℕ
-rest_codes = sign_code s.Greater ∷ others
-
 -- the three kinds have no code in common
 pub less_in : (r l k c d : Bool) → has (mix r l k c d) (sign_code s.Less) ≡ true → (r ≡ true) × (l ≡ true)
 less_in false l k c d h = absurd cc
@@ -284,3 +363,26 @@ others_on r l k c d m e f is = has_given r (given l (these s.Less) ++ (given k (
 pub types_on : (r l k c d : Bool) (m : ℕ) → r ≡ true → d ≡ true → has types m ≡ true → has (mix r l k c d) m ≡ true
 types_on r l k c d m e f is = has_given r (given l (these s.Less) ++ (given k (these s.Greater) ++ (given c others ++ given d types))) m e
     (has_right (given l (these s.Less)) (given k (these s.Greater) ++ (given c others ++ given d types)) m (has_right (given k (these s.Greater)) (given c others ++ given d types) m (has_right (given c others) (given d types) m (has_given d types m f is))))
+
+-- the codes of the reader itself have `>` wherever an operand leaves it
+abbrev pub raw_mix : Bool → Bool → Bool → Bool → List ℕ
+raw_mix r l c d = given r ((given l (these s.Less) ++ given c rest_codes) ++ given d types)
+
+pub to_raw : (r l k c d : Bool) → (k ≡ true → c ≡ true) → Within (mix r l k c d) (raw_mix r l c d)
+to_raw r l k c d on =
+    let less : List ℕ = given l (these s.Less) in
+    let rest : List ℕ = given c rest_codes in
+    let words : List ℕ = given d types in
+    let in_rest : Within rest ((less ++ rest) ++ words) = within_then (within_right less rest) (within_left (less ++ rest) words) in
+    within_given r (λ e. in_given r e (within_union (within_then (within_left less rest) (within_left (less ++ rest) words))
+    (within_union (within_given k (λ f. within_then (in_given c (on f) (inside {xs = these s.Greater} {ys = rest_codes} refl)) in_rest))
+    (within_union (within_given c (λ f. within_then (in_given c f (inside {xs = others} {ys = rest_codes} refl)) in_rest)) (within_right (less ++ rest) words))))) where
+      in_given : {xs ys : List ℕ} (b : Bool) → b ≡ true → Within xs ys → Within xs (given b ys)
+      in_given true e sub = sub
+      in_given false e sub = absurd cc
+
+pub same_bool : (a b : Bool) → (a ≡ true → b ≡ true) → (b ≡ true → a ≡ true) → a ≡ b
+same_bool true true f g = refl
+same_bool false false f g = refl
+same_bool true false f g = sym (f refl)
+same_bool false true f g = g refl

@@ -5,12 +5,13 @@ use Rattle.std.proofs.Math.Nat.{le-max_left, le-max_right, max-le}
 use Rattle.std.proofs.lemmas.Bool.{cases_lt, ltb-true, lt-ltb}
 use Rattle.dart_tree.specs.Types.{TypeNode}
 use Rattle.dart_tree.specs.Tree as t
-use Rattle.dart_tree.specs.Tree.{Expr, Operand, Primary, Tails, Cascades}
+use Rattle.dart_tree.specs.Tree.{Expr, Operand, Tails, Cascades}
 use Rattle.grammar_laws.specs.Codes.{disjoint, within, Apart, Within, given}
-use Rattle.grammar_laws.proofs.Codes.{apart, apart_none, apart_union, inside, and_both, and_true, or_cases, or_left, or_right, within_none, within_then, within_union, within_given, within_self, within_left, within_right}
+use Rattle.grammar_laws.proofs.Codes.{apart, apart_none, apart_union, inside, and_both, and_true, or_cases, or_left, or_right, within_none, within_then, within_union, within_left, within_right}
 use Rattle.dart_syntax.specs.Edges.{dots, question, compares, selects, nowhere, repeats, binds_between, expr_takes, operand_takes, tails_take, cascades_take}
 use Rattle.dart_syntax.specs.Levels.{level}
 use Rattle.laws_expr.specs.Nexts.{Next, Taking, taken_of}
+use Rattle.laws_expr.proofs.Sets.{apart_when, given_off, given_on, given_more}
 
 -- ---- the table of what goes on
 
@@ -34,38 +35,23 @@ others_apart n [] codes = true
 others_apart zero (x ∷ more) codes = all_apart more codes
 others_apart (suc n) (x ∷ more) codes = disjoint x.codes codes && others_apart n more codes
 
-given_apart : (b : Bool) {xs ys : List ℕ} → Apart xs ys → Apart (given b xs) ys
-given_apart true off = off
-given_apart false {ys = ys} off = apart_none ys
-
-pub given_off : (b : Bool) (xs ys : List ℕ) → b ≡ false → Apart (given b xs) ys
-given_off true xs ys e = absurd cc
-given_off false xs ys e = apart_none ys
-
 pub apart_all : (table : List Next) (codes : List ℕ) (takes : Taking) → all_apart table codes ≡ true → Apart (taken_of table takes) codes
 apart_all [] codes takes h = apart_none codes
-apart_all (x ∷ more) codes takes h = let w = and_both (disjoint x.codes codes) (all_apart more codes) h in apart_union (given_apart (takes x.binds x.opens) (apart w.0)) (apart_all more codes takes w.1)
+apart_all (x ∷ more) codes takes h = let w = and_both (disjoint x.codes codes) (all_apart more codes) h in apart_union (apart_when (takes x.binds x.opens) (λ e. apart w.0)) (apart_all more codes takes w.1)
 
 pub apart_but : (n : ℕ) (table : List Next) (codes : List ℕ) (takes : Taking) → others_apart n table codes ≡ true → at n table takes ≡ false → Apart (taken_of table takes) codes
 apart_but n [] codes takes h off = apart_none codes
 apart_but zero (x ∷ more) codes takes h off = apart_union (given_off (takes x.binds x.opens) x.codes codes off) (apart_all more codes takes h)
-apart_but (suc n) (x ∷ more) codes takes h off = let w = and_both (disjoint x.codes codes) (others_apart n more codes) h in apart_union (given_apart (takes x.binds x.opens) (apart w.0)) (apart_but n more codes takes w.1 off)
-
-given_on : (b : Bool) (xs : List ℕ) → b ≡ true → Within xs (given b xs)
-given_on true xs e = within_self xs
-given_on false xs e = absurd cc
+apart_but (suc n) (x ∷ more) codes takes h off = let w = and_both (disjoint x.codes codes) (others_apart n more codes) h in apart_union (apart_when (takes x.binds x.opens) (λ e. apart w.0)) (apart_but n more codes takes w.1 off)
 
 pub within_at : (n : ℕ) (table : List Next) (codes : List ℕ) (takes : Taking) → within codes (codes_at n table) ≡ true → at n table takes ≡ true → Within codes (taken_of table takes)
 within_at n [] codes takes h on = absurd cc
 within_at zero (x ∷ more) codes takes h on = within_then (inside h) (within_then (given_on (takes x.binds x.opens) x.codes on) (within_left (given (takes x.binds x.opens) x.codes) (taken_of more takes)))
 within_at (suc n) (x ∷ more) codes takes h on = within_then (within_at n more codes takes h on) (within_right (given (takes x.binds x.opens) x.codes) (taken_of more takes))
 
-given_moves : (b c : Bool) (xs : List ℕ) → (b ≡ true → c ≡ true) → Within (given b xs) (given c xs)
-given_moves b c xs on = within_given b (λ e. given_on c xs (on e))
-
 pub taken_moves : (table : List Next) (takes takes' : Taking) → ((n : ℕ) (opens : TypeNode → Bool) → takes n opens ≡ true → takes' n opens ≡ true) → Within (taken_of table takes) (taken_of table takes')
 taken_moves [] takes takes' on = within_none []
-taken_moves (x ∷ more) takes takes' on = within_union (within_then (given_moves (takes x.binds x.opens) (takes' x.binds x.opens) x.codes (on x.binds x.opens)) (within_left (given (takes' x.binds x.opens) x.codes) (taken_of more takes')))
+taken_moves (x ∷ more) takes takes' on = within_union (within_then (given_more (takes x.binds x.opens) (takes' x.binds x.opens) x.codes (on x.binds x.opens)) (within_left (given (takes' x.binds x.opens) x.codes) (taken_of more takes')))
     (within_then (taken_moves more takes takes' on) (within_right (given (takes' x.binds x.opens) x.codes) (taken_of more takes')))
 
 -- ---- from one place to another

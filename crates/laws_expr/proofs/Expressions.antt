@@ -31,20 +31,21 @@ use Rattle.syntax_readers.specs.Primaries.{ExprReaders, operand_first, expr_firs
 use Rattle.syntax_readers.specs.Levels.{LevelReaders, assigns}
 use Rattle.syntax_readers.specs.Expressions.{Assigned, Cascade, Behind, assigned, cascaded, an_expr, to_cascades, cascade_codes, assign_codes, assignment, assigned_or_cascaded, opened, expr_over}
 use Rattle.laws_expr.specs.Nexts.{Taking, nexts, taken, expr_alone, after_expr, after_without, after_operand, after_cascade}
-use Rattle.laws_expr.proofs.Begun.{swap, apart_when, front_starts, none_or}
-use Rattle.laws_expr.proofs.Open.{OpenLaws, Settled, open_spelling, half_tokens, after_open, bare, tree, no_some, open_by_first_laws, open_wider}
+use Rattle.laws_expr.proofs.Begun.{front_starts, none_or}
+use Rattle.laws_expr.proofs.Open.{OpenLaws, Settled, open_spelling, half_tokens, after_open, bare, tree, no_some, open_by_first_laws, open_wider, tree_fits}
 use Rattle.laws_expr.proofs.Edges.{within_at, taken_moves, expr_moves}
 use Rattle.laws_expr.proofs.Chain.{half_operand, half_moves, left_apart}
 use Rattle.laws_expr.proofs.Once.{half_without}
 use Rattle.laws_expr.proofs.Functions.{half_expr}
 use Rattle.laws_expr.proofs.Halved.{halved_laws}
-use Rattle.laws_expr.proofs.Assigning.{OperatorFits, second_tokens, one_of_said, operator_laws, operator_front}
 use Rattle.laws_expr.proofs.Assigning as asg
 use Rattle.laws_expr.proofs.Cascades.{half_cascade}
 use Rattle.laws_expr.proofs.Cascaded as c
 use Rattle.laws_expr.proofs.Cascaded.{after_cascades, half_cascades, cascades_laws}
 use Rattle.laws_expr.proofs.Throwing.{target_assign, target_equal, plain_on, half_plain_on, Throwing, throwing_front, throw_laws}
 use Rattle.laws_expr.proofs.Guarded.{guarded, GuardedFit, guarded_front, guarded_laws}
+use Rattle.laws_expr.proofs.Sets.{swap, apart_when}
+use Rattle.laws_expr.proofs.Divided.{AssignFits, second_tokens, one_of_said, assign_operator_laws, assign_front, assign_out}
 
 -- ---- what goes on
 
@@ -86,17 +87,17 @@ after_behind (cascaded all) = after_list (these s.DotDot) c.may_follow c.item_ne
 module _ (inner : ExprReaders) {E : Expr → Type 0} {efront : Front Token} (X : OpenLaws inner.expr expr_tokens E efront expr_first after_expr half_expr)
     {C : Place × (Selectors × Value) → Type 0} {cfront : Front Token} (L : OpenLaws inner.cascade section_tokens C cfront (these s.DotDot) after_cascade half_cascade) where
   abbrev BehindFits : Option Place → Behind → Type 0
-  BehindFits h (assigned x) = BothFit (OperatorFits h) X.Fits x
+  BehindFits h (assigned x) = BothFit (AssignFits h) X.Fits x
   BehindFits h (cascaded all) = SomeFit L.Fits c.may_follow all
 
   abbrev assigned_front : Option Place → Front Token
-  assigned_front h = Joint second_tokens (OperatorFits h) always (operator_front h) efront
+  assigned_front h = Joint second_tokens (AssignFits h) always (assign_front h) efront
 
   abbrev cascades_front : Front Token
   cascades_front = Several c.item_spell L.Fits c.may_follow cfront
 
   abbrev Kinds : Option Place → Behind → Type 0
-  Kinds h = EitherFit (Made cascaded (SomeFit L.Fits c.may_follow)) (Made assigned (BothFit (OperatorFits h) X.Fits))
+  Kinds h = EitherFit (Made cascaded (SomeFit L.Fits c.may_follow)) (Made assigned (BothFit (AssignFits h) X.Fits))
 
   kinds_out : (h : Option Place) (b : Behind) → Kinds h b → BehindFits h b
   kinds_out h b (inl (all, fits, is)) = subst (BehindFits h) is fits
@@ -110,9 +111,9 @@ module _ (inner : ExprReaders) {E : Expr → Type 0} {efront : Front Token} (X :
   apart_assign None = apart refl
   apart_assign (Some g) = apart refl
 
-  assignment_laws : (h : Option Place) → Laws class_of (assignment h inner.expr) (both_spelling second_tokens (open_spelling expr_tokens)) (BothFit (OperatorFits h) X.Fits) (assigned_front h) (assign_codes h) (λ y. after_open after_expr half_expr y.1) false
+  assignment_laws : (h : Option Place) → Laws class_of (assignment h inner.expr) (both_spelling second_tokens (open_spelling expr_tokens)) (BothFit (AssignFits h) X.Fits) (assigned_front h) (assign_codes h) (λ y. after_open after_expr half_expr y.1) false
   unfolding assignment
-  assignment_laws h = both_laws (operator_laws h) X.laws (λ y fits. apart_none expr_first)
+  assignment_laws h = both_laws (assign_operator_laws h) X.laws (λ y fits. apart_none expr_first)
 
   behind_laws : (h : Option Place) → Laws class_of (assigned_or_cascaded h inner) spelled (BehindFits h) (Either cascades_front (assigned_front h)) (these s.DotDot ++ assign_codes h) after_behind false
   unfolding assigned_or_cascaded
@@ -201,36 +202,24 @@ module _ (inner : ExprReaders) {E : Expr → Type 0} {efront : Front Token} (X :
     abbrev pub Of : Expr → Type 0
     Of = EitherFit Assigning Plain
 
-    row_out : (x : Open Operand) → row_half.Fits x → R x.0
-    row_out (x, None) fits = row_half.none_out x fits
-    row_out (x, Some g) fits = row_half.some_out x g fits
-
-    value_out : (x : Open Expr) → X.Fits x → E x.0
-    value_out (x, None) fits = X.none_out x fits
-    value_out (x, Some g) fits = X.some_out x g fits
-
-    operator_out : (h : Option Place) (x : Operator) → OperatorFits h x → g.assigning.Fits x
-    operator_out None x fits = inl fits
-    operator_out (Some first) x (second, at, is) = inr ((first, second), (tt, tt), is)
-
     halves : (x : Operand) (g : Place) → R x → assigns x ≡ true → row_half.Fits (x, Some g)
     halves x g fits on = inr (fits, on)
 
     dots_begin : (all : List (Open Cascade)) → SomeFit L.Fits c.may_follow all → starts class_of (these s.DotDot) (flat_map c.item_spell all) ≡ true
     dots_begin all fits = ap (starts class_of (these s.DotDot)) (sym (append-nil (flat_map c.item_spell all))) ∙ begins (cascades_laws inner L) all [] fits
 
-    assign_begin : (h : Option Place) (x : Assigned) → BothFit (OperatorFits h) X.Fits x → starts class_of (assign_codes h) (both_spelling second_tokens (open_spelling expr_tokens) x) ≡ true
+    assign_begin : (h : Option Place) (x : Assigned) → BothFit (AssignFits h) X.Fits x → starts class_of (assign_codes h) (both_spelling second_tokens (open_spelling expr_tokens) x) ≡ true
     assign_begin h x fits = ap (starts class_of (assign_codes h)) (sym (append-nil (both_spelling second_tokens (open_spelling expr_tokens) x))) ∙ begins (assignment_laws h) x [] fits
 
     plain_of : (x : Open Operand) → row_half.Fits x → Of (t.plain x.0 t.no_cascades)
-    plain_of x fits = inr ((x.0, []), inl (row_out x fits, refl), refl)
+    plain_of x fits = inr ((x.0, []), inl (tree_fits row_half x fits, refl), refl)
 
     tree_of : (x : Operand) (h : Option Place) (b : Behind) → row_half.Fits (x, h) → BehindFits h b → starts class_of (codes (x, h)) (spelled b) ≡ true → Of (an_expr ((x, h), Some b)).0
     tree_of x h (assigned (op, e)) fits known on =
-        inl ((x, (op, e.0)), (to_target x (row_out (x, h) fits) (assign_known x h (spelled (assigned (op, e))) on (assign_begin h (op, e) known)), (operator_out h op known.0, value_out e known.1)), refl)
+        inl ((x, (op, e.0)), (to_target x (tree_fits row_half (x, h) fits) (assign_known x h (spelled (assigned (op, e))) on (assign_begin h (op, e) known)), (assign_out h op known.0, tree_fits X e known.1)), refl)
     tree_of x h (cascaded all) fits known on =
         let k = dots_known x h (flat_map c.item_spell all) on (dots_begin all known) in
-        inr ((x, c.drop all), inr ((row_out (x, h) fits, k.1), (c.empty_drop all ∙ known.0, c.each_drop inner L all known.1)), ap (t.plain x) (c.cascades_drop all))
+        inr ((x, c.drop all), inr ((tree_fits row_half (x, h) fits, k.1), (c.empty_drop all ∙ known.0, c.each_drop inner L all known.1)), ap (t.plain x) (c.cascades_drop all))
 
     none_in : (z : Expr) → Of z → Made an_expr PartsFit (z, None)
     none_in z (inl ((x, (op, e)), (target, (inl known, value)), is)) =
@@ -256,7 +245,7 @@ module _ (inner : ExprReaders) {E : Expr → Type 0} {efront : Front Token} (X :
 
     -- ---- the tokens, and what goes on
 
-    assigned_said : (x : Operand) (h : Option Place) (op : Operator) (e : Open Expr) → OperatorFits h op → open_spelling expr_tokens (with_half (t.assign x op) e) ≡ (operand_tokens x ++ option_spelling half_tokens h) ++ (second_tokens op ++ open_spelling expr_tokens e)
+    assigned_said : (x : Operand) (h : Option Place) (op : Operator) (e : Open Expr) → AssignFits h op → open_spelling expr_tokens (with_half (t.assign x op) e) ≡ (operand_tokens x ++ option_spelling half_tokens h) ++ (second_tokens op ++ open_spelling expr_tokens e)
     unfolding expr_tokens
     assigned_said x None op (e, k) known =
         let same : second_tokens op ≡ operator_tokens op = one_of_said assignment_signs op known in
@@ -315,7 +304,7 @@ module _ (inner : ExprReaders) {E : Expr → Type 0} {efront : Front Token} (X :
     cascades_out x h ts more fits e f on =
         let k = dots_known x h more on (front_starts (codes (x, h)) (these s.DotDot) cascades_front (cascades_laws inner L).firsts more f on) in
         let d = c.go_drop inner L f.0 f.2 in
-        inr (inr (inr (x, more, row_out (x, h) fits, k.1, e ∙ ap (λ (o : Option Place). open_spelling operand_tokens (x, o) ++ more) k.0 ∙ ap (λ (m : List Token). m ++ more) (append-nil (operand_tokens x)), (c.drop f.0, f.1, d.0, f.3 ∙ ap (λ (m : List Token). m ++ f.1) d.1, f.4))))
+        inr (inr (inr (x, more, tree_fits row_half (x, h) fits, k.1, e ∙ ap (λ (o : Option Place). open_spelling operand_tokens (x, o) ++ more) k.0 ∙ ap (λ (m : List Token). m ++ more) (append-nil (operand_tokens x)), (c.drop f.0, f.1, d.0, f.3 ∙ ap (λ (m : List Token). m ++ f.1) d.1, f.4))))
 
     out : (ts : List Token) → PartsFront ts → of_front ts
     out ts (inl f) = said_out ts (asg.out assigns row_half X off off_half ts (inl f))

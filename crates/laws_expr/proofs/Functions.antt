@@ -5,7 +5,7 @@ use Rattle.dart_base.specs.declared.place.Place.{Place}
 use Rattle.dart_token.specs.declared.sign.Sign.TheVariants as s
 use Rattle.dart_tree.specs.Types.{TypeNode}
 use Rattle.dart_tree.specs.Tree as t
-use Rattle.dart_tree.specs.Tree.{Expr, Primary, Body, Parameters, Block}
+use Rattle.dart_tree.specs.Tree.{Expr, Primary, Body, Parameters}
 use Rattle.dart_tree.specs.Tokens.{expr_tokens, primary_tokens, body_tokens}
 use Rattle.grammar_laws.specs.Codes.{Within, nowhere}
 use Rattle.grammar_laws.proofs.Codes.{apart, apart_none, or_right, within_none, within_self, within_then, within_union, within_left, within_right}

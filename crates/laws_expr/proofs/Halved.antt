@@ -20,7 +20,7 @@ use Rattle.token_codes.proofs.Leaves.{sign_reads}
 use Rattle.token_codes.proofs.Only.{only_sign}
 use Rattle.grammar_laws.proofs.Tried.{stops_nowhere}
 use Rattle.syntax_readers.specs.Combinators.{Open, take_half, halved}
-use Rattle.laws_expr.proofs.Open.{OpenLaws, Settled, open_spelling, half_tokens, after_open, behind}
+use Rattle.laws_expr.proofs.Open.{OpenLaws, Settled, open_spelling, half_tokens, after_open, behind, half_said}
 
 abbrev is_greater : Token → Bool
 is_greater t = has (these s.Greater) (class_of t)
@@ -65,9 +65,6 @@ module _ {A : Type 0} {read : Reader Token (Open A)} {tokens : A → List Token}
 
   whole_none : (x : A) → F x → front (tokens x)
   whole_none x fits = subst front (append-nil (tokens x)) (P.laws.whole (x, None) (P.none_in x fits))
-
-  nexts_none : (x : A) (t : Token) (ts : List Token) → F x → front (tokens x ++ t ∷ ts) → has (next x) (class_of t) ≡ true
-  nexts_none x t ts fits f = P.laws.nexts (x, None) t ts (P.none_in x fits) (subst front (sym (alone x (t ∷ ts))) f)
 
   longest_none : (ts : List Token) (x : A) (t : Token) (rest : List Token) → read ts ≡ Ok (plain x, t ∷ rest) → front (tokens x ++ t ∷ []) → ⊥
   longest_none ts x t rest e f = P.laws.longest ts (x, None) t rest e (subst front (sym (alone x (t ∷ []))) f)
@@ -167,14 +164,11 @@ module _ {A : Type 0} {read : Reader Token (Open A)} {tokens : A → List Token}
   half_of_fits (x, None) fits = fits
   half_of_fits (x, Some g) fits = inl fits
 
-  half_said : (x : A) (g : Place) (rest : List Token) → open_spelling tokens (x, None) ++ sign_at g s.Greater ∷ rest ≡ open_spelling tokens (x, Some g) ++ rest
-  half_said x g rest = alone x (sign_at g s.Greater ∷ rest) ∙ sym (append_assoc (tokens x) (half_tokens g) rest)
-
   sound : (ts : List Token) (y : Open A) (rest : List Token) → halved may read ts ≡ Ok (y, rest) → Half y × (ts ≡ open_spelling tokens y ++ rest)
   sound ts y rest h = elim (inverse ts y rest (read ts) refl h) [
     | inl kept ↦ let l = P.laws.sound ts y rest kept.0 in (half_of_fits y l.0, l.1)
     | inr w ↦ let l = P.laws.sound ts (y.0, None) (sign_at w.0 s.Greater ∷ rest) w.3 in
-        (subst Half (sym w.1) (inr (P.none_out y.0 l.0, w.2)), l.1 ∙ half_said y.0 w.0 rest ∙ ap (λ (z : Open A). open_spelling tokens z ++ rest) (sym w.1))
+        (subst Half (sym w.1) (inr (P.none_out y.0 l.0, w.2)), l.1 ∙ half_said tokens y.0 w.0 rest ∙ ap (λ (z : Open A). open_spelling tokens z ++ rest) (sym w.1))
   ]
 
   -- a front of the whole that ends in this token
@@ -219,7 +213,7 @@ module _ {A : Type 0} {read : Reader Token (Open A)} {tokens : A → List Token}
 
   complete_taken : (x : A) (g : Place) (rest : List Token) → may x ≡ true → Stays x → halved may read (open_spelling tokens (x, Some g) ++ rest) ≡ gave (with x g) rest
   complete_taken x g rest on stays =
-      ap (halved may read) (sym (half_said x g rest))
+      ap (halved may read) (sym (half_said tokens x g rest))
       ∙ ran (open_spelling tokens (x, None) ++ sign_at g s.Greater ∷ rest) (x, None) (sign_at g s.Greater ∷ rest) (stays g rest)
       ∙ ap (λ (b : Bool). step b (x, None) (sign_at g s.Greater ∷ rest)) (and_true (may x) (is_greater (sign_at g s.Greater)) on (greater_code g)) ∙ taken_step x g rest
 

@@ -12,10 +12,10 @@ use Rattle.grammar_laws.specs.Codes.{has, Apart, Within, given, after_followed}
 use Rattle.grammar_laws.specs.Readers.{Outcome, Reader, and_then, mapped, followed, starts, when}
 use Rattle.grammar_laws.specs.Halves.{no_half}
 use Rattle.grammar_laws.specs.Fronts.{Front, Joint, Either, EitherFit, BothFit, GoesOn, FollowedFit, Made, joined_spelling}
-use Rattle.grammar_laws.specs.Laws.{Laws, Stops}
+use Rattle.grammar_laws.specs.Laws.{Laws}
 use Rattle.grammar_laws.proofs.Cuts.{gave}
 use Rattle.grammar_laws.proofs.Joints.{begins}
-use Rattle.grammar_laws.proofs.Codes.{not_true, and_both, and_true, and_false, within_none, within_union, within_given}
+use Rattle.grammar_laws.proofs.Codes.{and_both, and_true, and_false, within_none, within_union, within_given}
 use Rattle.grammar_laws.proofs.Depth.{below_is, is_below_by}
 use Rattle.grammar_laws.proofs.Restated.{made_laws, refront}
 use Rattle.grammar_laws.proofs.Followed.{followed_laws}
@@ -23,7 +23,7 @@ use Rattle.dart_syntax.specs.Edges.{leaves}
 use Rattle.token_codes.specs.Codes.{class_of, sign_code}
 use Rattle.syntax_readers.specs.Combinators.{Open}
 use Rattle.syntax_readers.specs.Levels.{has_room}
-use Rattle.laws_expr.proofs.Open.{OpenLaws, Settled, open_spelling, after_open, bare, tree, behind, no_some}
+use Rattle.laws_expr.proofs.Open.{OpenLaws, Settled, open_spelling, after_open, bare, tree, behind, no_some, stops_first}
 
 module _ (loose n : ℕ) (codes : List ℕ)
     {here : Reader Token (Open Operand)} {F : Operand → Type 0} {front : Front Token} {first : List ℕ} {next half : Operand → List ℕ} (H : OpenLaws here operand_tokens F front first next half)
@@ -135,10 +135,6 @@ module _ (loose n : ℕ) (codes : List ℕ)
   abbrev pub PartSettled : Operand → B → Type 0
   PartSettled x b = ((g : Place) → (c : B) × Fits c × (join x c ≡ ((join x b).0, Some g))) ⊎ ((g : Place) (ts : List Token) → part (spell b ++ sign_at g s.Greater ∷ ts) ≡ Ok (b, sign_at g s.Greater ∷ ts))
 
-  stops_at : (xs ys : List ℕ) (ts : List Token) → Apart xs ys → starts class_of ys ts ≡ true → Stops class_of xs ts
-  stops_at xs ys [] off on = refl
-  stops_at xs ys (t ∷ ts) off on = not_true (has xs (class_of t)) (λ h. off.never_both (class_of t) h on)
-
   pub part_settled : (x : Operand) (b : B) → D x → leaves loose x ≡ true → Fits b → behind (join x b) ≡ None → PartSettled x b → Settled joined_laws (join x b).0
   unfolding joined_laws
   part_settled x b d on fits alone (inl known) =
@@ -152,5 +148,5 @@ module _ (loose n : ℕ) (codes : List ℕ)
       let whole : ((join x b).0, None) ≡ join x b = ap (λ (h : Option Place). ((join x b).0, h)) (sym alone) in
       let tokens : open_spelling operand_tokens ((join x b).0, None) ++ rest ≡ open_spelling operand_tokens (x, None) ++ (spell b ++ rest) = ap (λ (m : List Token). m ++ rest) (ap (open_spelling operand_tokens) whole ∙ said x b fits ∙ ap (λ (m : List Token). m ++ spell b) (sym (append-nil (operand_tokens x)))) ∙ append_assoc (operand_tokens x ++ []) (spell b) rest in
       ap (mapped all (followed class_of may codes here part)) tokens
-      ∙ rw (H.laws.complete (x, None) (spell b ++ rest) (H.none_in x u.0) (stops_at (next x) codes (spell b ++ rest) (left x u.0 on) begun), go, begun, stays g ts) refl
+      ∙ rw (H.laws.complete (x, None) (spell b ++ rest) (H.none_in x u.0) (stops_first (next x) codes (spell b ++ rest) (left x u.0 on) begun), go, begun, stays g ts) refl
       ∙ ap (λ (y : Open Operand). gave y rest) (all_some (x, None) b ∙ sym whole))

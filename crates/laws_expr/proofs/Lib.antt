@@ -22,6 +22,9 @@ pub mod Rows
 pub mod Halved
 pub mod Shifts
 pub mod Begun
+pub mod Sets
+pub mod Tails
+pub mod Divided
 pub mod Guarded
 pub mod Refined
 pub mod Comparing

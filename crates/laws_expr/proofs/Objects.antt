@@ -125,9 +125,6 @@ module _ {here : ExprReaders} {nodes : g.ExprNodes} (N : ClosedRead here nodes) 
   an_object (x, (of, Some (constructor, arguments))) = t.new_object x of constructor arguments
   an_object (x, (of, None)) = t.bare_super (place_of x)
 
-  abbrev Parts : Type 0
-  Parts = Creation × (TypeNode × (Option DotName × Arguments))
-
   abbrev object_of : Creation × (TypeNode × (Option DotName × Arguments)) → Primary
   object_of x = t.new_object x.0 x.1.0 x.1.1.0 x.1.1.1
 
@@ -255,9 +252,6 @@ module _ {here : ExprReaders} {nodes : g.ExprNodes} (N : ClosedRead here nodes) 
   same_behind (named_type name (Some member) no_types) ts rest e = refl
   same_behind (named_type name None (listed_types opening listed closing)) ts rest e = refl
   same_behind (named_type name (Some member) (listed_types opening listed closing)) ts rest e = refl
-
-  abbrev Behind : Type 0
-  Behind = Option DotName × Arguments
 
   abbrev any_end : Creation → TypeNode → Outcome Token (Option DotName × Arguments) → Outcome Token Primary
   any_end x of o = and_then (and_then (and_then o (λ y r. Ok ((of, y), r))) (λ y r. Ok ((x, y), r))) (λ y r. Ok (object_of y, r))

@@ -1,6 +1,5 @@
 -- The law of a row of which one operator may stand behind an operand (ECMA-408, 16.23 Equality).
-use Rattle.std.proofs.Common.{◌≡◌, ℕ, suc, max, ◌<◌, Bool, true, false, not, ◌&&◌, ◌||◌, List, ◌∷◌, ◌++◌, None, Some, Ok, ◌⊎◌, inl, inr, refl, ap, ◌∙◌, append_assoc, arith}
-use Rattle.std.proofs.Math.Nat.{le-max_right, max-le}
+use Rattle.std.proofs.Common.{◌≡◌, ℕ, suc, max, ◌<◌, Bool, true, false, not, List, ◌∷◌, ◌++◌, None, Some, Ok, ◌⊎◌, inl, inr, refl, ap, ◌∙◌, append_assoc, arith}
 use Rattle.std.proofs.lemmas.List.{append-nil}
 use Rattle.dart_base.specs.declared.place.Place.{Place}
 use Rattle.dart_token.specs.declared.token.Token.{Token}
@@ -26,7 +25,7 @@ use Rattle.grammar_laws.proofs.Combined.{both_laws}
 use Rattle.dart_syntax.specs.Phrases.{Anything}
 use Rattle.dart_syntax.specs.Leaves.{sign_tokens}
 use Rattle.dart_syntax.specs.Leaves as l
-use Rattle.dart_syntax.specs.Edges.{repeats, binds_between, opens_nothing, question, operand_takes, tails_take, expr_takes, leaves}
+use Rattle.dart_syntax.specs.Edges.{binds_between, opens_nothing, question, operand_takes, tails_take, expr_takes, leaves}
 use Rattle.dart_syntax.specs.Levels.{level}
 use Rattle.token_codes.specs.Codes.{class_of, sign_code, these, sign_codes}
 use Rattle.token_codes.specs.Leaves.{sign, one_of}
@@ -36,18 +35,10 @@ use Rattle.syntax_readers.specs.Primaries.{expr_first}
 use Rattle.syntax_readers.specs.Levels.{Item, is_bare, joined_once, joined_conditional, whole, once, conditional}
 use Rattle.laws_expr.specs.Nexts.{Taking, nexts, taken, operand_alone, expr_alone, after_operand, after_without}
 use Rattle.laws_expr.proofs.Behind.{alone, under_without}
-use Rattle.laws_expr.proofs.Open.{OpenLaws, Settled, stops_first, checked_settled, open_spelling, after_open, open_checked_laws, open_strict_laws}
+use Rattle.laws_expr.proofs.Open.{OpenLaws, Settled, stops_first, checked_settled, open_spelling, after_open, open_checked_laws, open_strict_laws, tree_fits}
 use Rattle.laws_expr.proofs.Edges.{at, codes_at, others_apart, within_at, taken_moves}
-use Rattle.laws_expr.proofs.Chain.{half_of, half_operand, half_moves, looser, looser_half, left_apart}
+use Rattle.laws_expr.proofs.Chain.{half_of, half_operand, half_moves, looser, looser_half, left_apart, last_takes}
 use Rattle.laws_expr.proofs.Joined.{joined_laws, first_settled, part_settled}
-
--- behind the last operand of a row what goes on with the operand
-pub last_takes : (loose : ℕ) (o : Operator) (x : Operand) → level o ≡ loose → (next : ℕ) (opens : TypeNode → Bool) → operand_takes next opens (suc loose) x ≡ true → tails_take next opens loose (t.tail o x t.no_tails) ≡ true
-unfolding tails_take
-last_takes loose o x e next opens h =
-    let same : max loose (suc loose) ≡ suc loose = omega (arith, le-max_right loose (suc loose), max-le {a = loose} {b = suc loose} {k = suc loose} (omega arith) (omega arith)) in
-    or_right (binds_between next opens loose (level o)) ((binds_between next opens loose (suc (level o)) && repeats (level o)) || operand_takes next opens (max loose (suc (level o))) x)
-    (or_right (binds_between next opens loose (suc (level o)) && repeats (level o)) (operand_takes next opens (max loose (suc (level o))) x) (ap (λ (m : ℕ). operand_takes next opens m x) (ap (λ (m : ℕ). max loose (suc m)) e ∙ same) ∙ h))
 
 abbrev item_spell : Item → List Token
 item_spell = both_spelling operator_tokens (open_spelling operand_tokens)
@@ -84,10 +75,6 @@ module _ (loose : ℕ) (n : ℕ) (signs : List Sign) (row : ℕ)
     {D : Operand → Type 0} {dfront : Front Token}
     (down : (x : Operand) → F x → operand_height x < n → D x) (up : (x : Operand) → D x → F x × (operand_height x < n)) (rise : (ts : List Token) → dfront ts → front ts)
     (rises : (x : Operand) → F x → operand_takes loose opens_nothing loose x ≡ true) where
-  low_out : (x : Open Operand) → L.Fits x → U x.0
-  low_out (x, None) fits = L.none_out x fits
-  low_out (x, Some greater) fits = L.some_out x greater fits
-
   own_codes : (x : Operand) → F x → Within (sign_codes signs) (after_operand loose x)
   own_codes x fits = within_then (within_at row nexts (sign_codes signs) (λ next opens. operand_takes next opens loose x) own (here_row (λ next opens. operand_takes next opens loose x) ∙ rises x fits)) (within_left (taken (λ next opens. operand_takes next opens loose x)) (operand_alone x))
 
@@ -101,7 +88,7 @@ module _ (loose : ℕ) (n : ℕ) (signs : List Sign) (row : ℕ)
   unfolding once whole
   once_laws = open_checked_laws (joined_laws loose n (sign_codes signs) H (both_laws O L.laws (λ o fits. apart_none ufirst)) down up rise
       (λ x fits left. left_apart loose (suc loose) row (sign_codes signs) x (omega arith) others here_row apart_alone left)
-      (BothFit Of U) item_node item_join item_drop item_keep (λ x p. refl) (λ x b. refl) (λ b fits. (fits.0, low_out b.1 fits.1)) (λ p fits. (fits.0, L.none_in p.1 fits.1))
+      (BothFit Of U) item_node item_join item_drop item_keep (λ x p. refl) (λ x b. refl) (λ b fits. (fits.0, tree_fits L b.1 fits.1)) (λ p fits. (fits.0, L.none_in p.1 fits.1))
       (λ x b fits. item_said x b) (after_operand loose) (half_operand loose) (λ x fits. looser (suc loose) loose x (omega arith)) (λ x fits. looser_half (suc loose) loose x (omega arith)) own_codes
       (λ x b fits. item_on loose x b (leveled b.0 fits.0)) joined_once (λ x. refl) (λ x b. refl)) (λ x. not (is_bare x))
 
@@ -114,12 +101,12 @@ module _ (loose : ℕ) (n : ℕ) (signs : List Sign) (row : ℕ)
   unfolding once whole once_laws
   once_operand_settled x fits plain settled = checked_settled (joined_laws loose n (sign_codes signs) H (both_laws O L.laws (λ o fits. apart_none ufirst)) down up rise
       (λ x fits left. left_apart loose (suc loose) row (sign_codes signs) x (omega arith) others here_row apart_alone left)
-      (BothFit Of U) item_node item_join item_drop item_keep (λ x p. refl) (λ x b. refl) (λ b fits. (fits.0, low_out b.1 fits.1)) (λ p fits. (fits.0, L.none_in p.1 fits.1))
+      (BothFit Of U) item_node item_join item_drop item_keep (λ x p. refl) (λ x b. refl) (λ b fits. (fits.0, tree_fits L b.1 fits.1)) (λ p fits. (fits.0, L.none_in p.1 fits.1))
       (λ x b fits. item_said x b) (after_operand loose) (half_operand loose) (λ x fits. looser (suc loose) loose x (omega arith)) (λ x fits. looser_half (suc loose) loose x (omega arith)) own_codes
       (λ x b fits. item_on loose x b (leveled b.0 fits.0)) joined_once (λ x. refl) (λ x b. refl)) (λ x. not (is_bare x)) x (ap not plain)
       (first_settled loose n (sign_codes signs) H (both_laws O L.laws (λ o fits. apart_none ufirst)) down up rise
       (λ x fits left. left_apart loose (suc loose) row (sign_codes signs) x (omega arith) others here_row apart_alone left)
-      (BothFit Of U) item_node item_join item_drop item_keep (λ x p. refl) (λ x b. refl) (λ b fits. (fits.0, low_out b.1 fits.1)) (λ p fits. (fits.0, L.none_in p.1 fits.1))
+      (BothFit Of U) item_node item_join item_drop item_keep (λ x p. refl) (λ x b. refl) (λ b fits. (fits.0, tree_fits L b.1 fits.1)) (λ p fits. (fits.0, L.none_in p.1 fits.1))
       (λ x b fits. item_said x b) (after_operand loose) (half_operand loose) (λ x fits. looser (suc loose) loose x (omega arith)) (λ x fits. looser_half (suc loose) loose x (omega arith)) own_codes
       (λ x b fits. item_on loose x b (leveled b.0 fits.0)) joined_once (λ x. refl) (λ x b. refl) no_greater x fits settled)
 
@@ -134,12 +121,12 @@ module _ (loose : ℕ) (n : ℕ) (signs : List Sign) (row : ℕ)
   unfolding once whole once_laws
   once_node_settled x o y d on known fits settled = checked_settled (joined_laws loose n (sign_codes signs) H (both_laws O L.laws (λ o fits. apart_none ufirst)) down up rise
       (λ x fits left. left_apart loose (suc loose) row (sign_codes signs) x (omega arith) others here_row apart_alone left)
-      (BothFit Of U) item_node item_join item_drop item_keep (λ x p. refl) (λ x b. refl) (λ b fits. (fits.0, low_out b.1 fits.1)) (λ p fits. (fits.0, L.none_in p.1 fits.1))
+      (BothFit Of U) item_node item_join item_drop item_keep (λ x p. refl) (λ x b. refl) (λ b fits. (fits.0, tree_fits L b.1 fits.1)) (λ p fits. (fits.0, L.none_in p.1 fits.1))
       (λ x b fits. item_said x b) (after_operand loose) (half_operand loose) (λ x fits. looser (suc loose) loose x (omega arith)) (λ x fits. looser_half (suc loose) loose x (omega arith)) own_codes
       (λ x b fits. item_on loose x b (leveled b.0 fits.0)) joined_once (λ x. refl) (λ x b. refl)) (λ x. not (is_bare x)) (t.binary x (t.tail o y t.no_tails)) refl
       (part_settled loose n (sign_codes signs) H (both_laws O L.laws (λ o fits. apart_none ufirst)) down up rise
       (λ x fits left. left_apart loose (suc loose) row (sign_codes signs) x (omega arith) others here_row apart_alone left)
-      (BothFit Of U) item_node item_join item_drop item_keep (λ x p. refl) (λ x b. refl) (λ b fits. (fits.0, low_out b.1 fits.1)) (λ p fits. (fits.0, L.none_in p.1 fits.1))
+      (BothFit Of U) item_node item_join item_drop item_keep (λ x p. refl) (λ x b. refl) (λ b fits. (fits.0, tree_fits L b.1 fits.1)) (λ p fits. (fits.0, L.none_in p.1 fits.1))
       (λ x b fits. item_said x b) (after_operand loose) (half_operand loose) (λ x fits. looser (suc loose) loose x (omega arith)) (λ x fits. looser_half (suc loose) loose x (omega arith)) own_codes
       (λ x b fits. item_on loose x b (leveled b.0 fits.0)) joined_once (λ x. refl) (λ x b. refl) x (o, (y, None)) d on (known, L.none_in y fits) refl (item_settled x o y known fits settled))
 
@@ -147,9 +134,6 @@ module _ (loose : ℕ) (n : ℕ) (signs : List Sign) (row : ℕ)
 
 abbrev pub half_without : Expr → List ℕ
 half_without x = half_of (λ next opens. expr_takes next opens question x) (expr_alone x)
-
-abbrev Branches : Type 0
-Branches = Place × (Expr × (Place × Open Expr))
 
 abbrev branch_node : Operand → Place × (Expr × (Place × Expr)) → Operand
 branch_node x p = t.conditional x p.0 p.1.0 p.1.1.0 p.1.1.1
@@ -186,10 +170,6 @@ module _ (n : ℕ) {without : Reader Token (Open Expr)} {E : Expr → Type 0} {e
     {D : Operand → Type 0} {dfront : Front Token}
     (down : (x : Operand) → F x → operand_height x < n → D x) (up : (x : Operand) → D x → F x × (operand_height x < n)) (rise : (ts : List Token) → dfront ts → front ts)
     (rises : (x : Operand) → F x → operand_takes question opens_nothing question x ≡ true) where
-  expr_out : (x : Open Expr) → W.Fits x → E x.0
-  expr_out (x, None) fits = W.none_out x fits
-  expr_out (x, Some greater) fits = W.some_out x greater fits
-
   own_question : (x : Operand) → F x → Within (these s.Question) (after_operand question x)
   own_question x fits = within_then (within_at 1 nexts (these s.Question) (λ next opens. operand_takes next opens question x) refl (rises x fits)) (within_left (taken (λ next opens. operand_takes next opens question x)) (operand_alone x))
 
@@ -208,7 +188,7 @@ module _ (n : ℕ) {without : Reader Token (Open Expr)} {E : Expr → Type 0} {e
   conditional_laws = joined_laws question n (these s.Question) H
       (both_laws (sign_reads s.Question) (both_laws (open_strict_laws W) (both_laws (sign_reads s.Colon) W.laws (λ place fits. apart_none expr_first)) (λ e fits. apart_smaller (under_without e) (apart refl))) (λ place fits. apart_none expr_first)) down up rise
       (λ x fits left. left_apart question (suc question) 1 (these s.Question) x (omega arith) refl (λ takes. refl) refl left)
-      BranchesFit branch_node branch_join branch_drop branch_keep (λ x p. refl) (λ x b. refl) (λ b fits. (fits.0, (fits.1.0, (fits.1.1.0, expr_out b.1.1.1 fits.1.1.1)))) (λ p fits. (fits.0, (fits.1.0, (fits.1.1.0, W.none_in p.1.1.1 fits.1.1.1))))
+      BranchesFit branch_node branch_join branch_drop branch_keep (λ x p. refl) (λ x b. refl) (λ b fits. (fits.0, (fits.1.0, (fits.1.1.0, tree_fits W b.1.1.1 fits.1.1.1)))) (λ p fits. (fits.0, (fits.1.0, (fits.1.1.0, W.none_in p.1.1.1 fits.1.1.1))))
       (λ x b fits. branch_said x b) (after_operand question) (half_operand question) (λ x fits. looser (suc question) question x (omega arith)) (λ x fits. looser_half (suc question) question x (omega arith)) own_question
       (λ x b fits. branch_on x b) joined_conditional (λ x. refl) (λ x b. refl)
 
@@ -217,7 +197,7 @@ module _ (n : ℕ) {without : Reader Token (Open Expr)} {E : Expr → Type 0} {e
   choice_operand_settled x fits settled = first_settled question n (these s.Question) H
       (both_laws (sign_reads s.Question) (both_laws (open_strict_laws W) (both_laws (sign_reads s.Colon) W.laws (λ place fits. apart_none expr_first)) (λ e fits. apart_smaller (under_without e) (apart refl))) (λ place fits. apart_none expr_first)) down up rise
       (λ x fits left. left_apart question (suc question) 1 (these s.Question) x (omega arith) refl (λ takes. refl) refl left)
-      BranchesFit branch_node branch_join branch_drop branch_keep (λ x p. refl) (λ x b. refl) (λ b fits. (fits.0, (fits.1.0, (fits.1.1.0, expr_out b.1.1.1 fits.1.1.1)))) (λ p fits. (fits.0, (fits.1.0, (fits.1.1.0, W.none_in p.1.1.1 fits.1.1.1))))
+      BranchesFit branch_node branch_join branch_drop branch_keep (λ x p. refl) (λ x b. refl) (λ b fits. (fits.0, (fits.1.0, (fits.1.1.0, tree_fits W b.1.1.1 fits.1.1.1)))) (λ p fits. (fits.0, (fits.1.0, (fits.1.1.0, W.none_in p.1.1.1 fits.1.1.1))))
       (λ x b fits. branch_said x b) (after_operand question) (half_operand question) (λ x fits. looser (suc question) question x (omega arith)) (λ x fits. looser_half (suc question) question x (omega arith)) own_question
       (λ x b fits. branch_on x b) joined_conditional (λ x. refl) (λ x b. refl) refl x fits settled
 
@@ -237,7 +217,7 @@ module _ (n : ℕ) {without : Reader Token (Open Expr)} {E : Expr → Type 0} {e
   choice_node_settled x mark first colon second d on fits last settled = part_settled question n (these s.Question) H
       (both_laws (sign_reads s.Question) (both_laws (open_strict_laws W) (both_laws (sign_reads s.Colon) W.laws (λ place fits. apart_none expr_first)) (λ e fits. apart_smaller (under_without e) (apart refl))) (λ place fits. apart_none expr_first)) down up rise
       (λ x fits left. left_apart question (suc question) 1 (these s.Question) x (omega arith) refl (λ takes. refl) refl left)
-      BranchesFit branch_node branch_join branch_drop branch_keep (λ x p. refl) (λ x b. refl) (λ b fits. (fits.0, (fits.1.0, (fits.1.1.0, expr_out b.1.1.1 fits.1.1.1)))) (λ p fits. (fits.0, (fits.1.0, (fits.1.1.0, W.none_in p.1.1.1 fits.1.1.1))))
+      BranchesFit branch_node branch_join branch_drop branch_keep (λ x p. refl) (λ x b. refl) (λ b fits. (fits.0, (fits.1.0, (fits.1.1.0, tree_fits W b.1.1.1 fits.1.1.1)))) (λ p fits. (fits.0, (fits.1.0, (fits.1.1.0, W.none_in p.1.1.1 fits.1.1.1))))
       (λ x b fits. branch_said x b) (after_operand question) (half_operand question) (λ x fits. looser (suc question) question x (omega arith)) (λ x fits. looser_half (suc question) question x (omega arith)) own_question
       (λ x b fits. branch_on x b) joined_conditional (λ x. refl) (λ x b. refl)
       x (mark, (first, (colon, (second, None)))) d on (tt, (fits, (tt, W.none_in second last))) refl (branches_settled x mark first colon second fits last settled)

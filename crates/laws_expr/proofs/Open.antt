@@ -32,6 +32,9 @@ abbrev pub after_open : {A : Type 0} → (A → List ℕ) → (A → List ℕ) �
 after_open next half (x, None) = next x
 after_open next half (x, Some greater) = half x
 
+pub half_said : {A : Type 0} (tokens : A → List Token) (x : A) (g : Place) (rest : List Token) → open_spelling tokens (x, None) ++ sign_at g s.Greater ∷ rest ≡ open_spelling tokens (x, Some g) ++ rest
+half_said tokens x g rest = append_assoc (tokens x) [] (sign_at g s.Greater ∷ rest) ∙ sym (append_assoc (tokens x) (half_tokens g) rest)
+
 -- without a half exactly the trees that fit are read, and with one some of them
 pub record OpenLaws {A : Type 0} (read : Reader Token (Open A)) (tokens : A → List Token) (F : A → Type 0) (front : Front Token) (first : List ℕ) (next half : A → List ℕ) : Type 1 where
   pub Fits : Open A → Type 0
@@ -41,6 +44,10 @@ pub record OpenLaws {A : Type 0} (read : Reader Token (Open A)) (tokens : A → 
   pub laws : Laws class_of read (open_spelling tokens) Fits front first (after_open next half) false
 
 module _ {A : Type 0} {read : Reader Token (Open A)} {tokens : A → List Token} {F : A → Type 0} {front : Front Token} {first : List ℕ} {next half : A → List ℕ} (P : OpenLaws read tokens F front first next half) where
+  pub tree_fits : (x : Open A) → P.Fits x → F x.0
+  tree_fits (x, None) fits = P.none_out x fits
+  tree_fits (x, Some greater) fits = P.some_out x greater fits
+
   -- of a `>` behind the tree: the reader gives it as a half, or stops before it
   abbrev pub Settled : A → Type 0
   Settled x = ((g : Place) → P.Fits (x, Some g)) ⊎ ((g : Place) (ts : List Token) → read (open_spelling tokens (x, None) ++ sign_at g s.Greater ∷ ts) ≡ Ok ((x, None), sign_at g s.Greater ∷ ts))

@@ -1,5 +1,5 @@
 -- The law of the reader of postfix expressions (ECMA-408, 16.31 Postfix Expressions), over that of primaries with selectors behind them.
-use Rattle.std.proofs.Common.{◌≡◌, ℕ, ◌<◌, Bool, true, false, List, [], ◌++◌, Option, None, Some, inl, inr, refl, ap, sym, ◌∙◌, subst, append_assoc, flat_map}
+use Rattle.std.proofs.Common.{◌≡◌, ℕ, ◌<◌, true, false, List, [], ◌++◌, Option, None, Some, inl, inr, refl, ap, sym, ◌∙◌, subst, append_assoc, flat_map}
 use Rattle.std.proofs.lemmas.List.{append-nil}
 use Rattle.dart_base.specs.declared.place.Place.{Place}
 use Rattle.dart_token.specs.declared.token.Token.{Token}
@@ -31,10 +31,11 @@ use Rattle.token_codes.proofs.Leaves.{Distinct, one_of_reads}
 use Rattle.syntax_readers.specs.Combinators.{Open}
 use Rattle.syntax_readers.specs.Levels.{assigns, step_signs, steps_behind, stepped, postfix}
 use Rattle.laws_expr.specs.Nexts.{nexts, taken, stepping, operand_alone, primary_alone, after_operand}
-use Rattle.laws_expr.proofs.Open.{OpenLaws, open_spelling, half_tokens, after_open, bare, tree, no_some}
+use Rattle.laws_expr.proofs.Open.{OpenLaws, open_spelling, half_tokens, after_open, bare, tree, no_some, tree_fits}
 use Rattle.laws_expr.proofs.Edges.{apart_all}
 use Rattle.laws_expr.proofs.Chain.{half_operand}
 use Rattle.laws_expr.proofs.Selected.{alone_super, after_selected, selected_on}
+use Rattle.laws_expr.proofs.Sets.{given_on}
 
 -- ---- what goes on behind what may be stepped
 
@@ -53,15 +54,11 @@ target_closed (t.primary (t.super_access word k)) e = refl
 target_closed (t.postfix x behind None) e = refl
 target_closed x e = absurd cc
 
-given_in : (b : Bool) (xs : List ℕ) → b ≡ true → Within xs (given b xs)
-given_in true xs e = within_self xs
-given_in false xs e = absurd cc
-
 steps_in : (x : Operand) → assigns x ≡ true → Within stepping (operand_alone x)
 unfolding operand_alone
 steps_in (t.primary (t.atom (a.Name name))) e = within_left stepping []
-steps_in (t.primary (t.super_access word k)) e = within_then (given_in (g.assigns k) stepping e) (within_left (given (g.assigns k) stepping) [])
-steps_in (t.postfix x behind None) e = given_in (selectors_assign behind) stepping e
+steps_in (t.primary (t.super_access word k)) e = within_then (given_on (g.assigns k) stepping e) (within_left (given (g.assigns k) stepping) [])
+steps_in (t.postfix x behind None) e = given_on (selectors_assign behind) stepping e
 steps_in x e = absurd cc
 
 no_super : (x : Primary) → primary_assigns x ≡ true → alone_super x ≡ false
@@ -115,10 +112,6 @@ module _ (n : ℕ) {read : Reader Token (Open Operand)} {P D : Primary → Type 
   abbrev pub of_front : Front Token
   of_front = Either pfront (Either sel_front (Either (Joint primary_tokens D primary_assigns dfront steps_front) (Joint selected_tokens SelectedFits ends_in_target sel_front steps_front)))
 
-  fit_out : (x : Open Operand) → S.Fits x → SFit x.0
-  fit_out (x, None) fits = S.none_out x fits
-  fit_out (x, Some h) fits = S.some_out x h fits
-
   -- what may be stepped is read without a half
   no_half : {X : Type 0} (x : Operand) (h : Place) → S.Fits (x, Some h) → assigns x ≡ true → X
   unfolding class_of
@@ -161,12 +154,12 @@ module _ (n : ℕ) {read : Reader Token (Open Operand)} {P D : Primary → Type 
   none_out : (z : Operand) → Made stepped PartsFit (z, None) → Of z
   none_out z (((x, None), None), fits, e) = subst Of (ap tree e) (widen x (S.none_out x fits.0))
   none_out z (((x, Some h), None), fits, e) = no_some (x, Some h) (z, None) e refl refl
-  none_out z (((x, h), Some o), fits, e) = subst Of (ap tree e) (node_of x h o (fit_out (x, h) fits.0) fits.1.0 fits.1.1)
+  none_out z (((x, h), Some o), fits, e) = subst Of (ap tree e) (node_of x h o (tree_fits S (x, h) fits.0) fits.1.0 fits.1.1)
 
   some_out : (z : Operand) (h : Place) → Made stepped PartsFit (z, Some h) → Of z
   some_out z h (((x, None), None), fits, e) = no_some (z, Some h) (x, None) (sym e) refl refl
   some_out z h (((x, Some other), None), fits, e) = subst Of (ap tree e) (widen x (S.some_out x other fits.0))
-  some_out z h (((x, k), Some o), fits, e) = subst Of (ap tree e) (node_of x k o (fit_out (x, k) fits.0) fits.1.0 fits.1.1)
+  some_out z h (((x, k), Some o), fits, e) = subst Of (ap tree e) (node_of x k o (tree_fits S (x, k) fits.0) fits.1.0 fits.1.1)
 
   -- ---- tokens, and what goes on
 

@@ -5,7 +5,7 @@ use Rattle.dart_token.specs.declared.token.Token.{Token}
 use Rattle.dart_token.specs.declared.sign.Sign.TheVariants as s
 use Rattle.dart_token.specs.declared.word.Word.TheVariants as w
 use Rattle.dart_tree.specs.Tree as t
-use Rattle.dart_tree.specs.Tree.{Primary, Selector, Pieces}
+use Rattle.dart_tree.specs.Tree.{Primary, Selector}
 use Rattle.dart_tree.specs.Tokens.{primary_tokens, selector_tokens}
 use Rattle.grammar_laws.specs.Codes.{Within, nowhere, after_followed}
 use Rattle.grammar_laws.specs.Readers.{always, mapped}

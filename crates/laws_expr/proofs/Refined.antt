@@ -1,5 +1,5 @@
 -- Behind a tree whose reader stops before a `>` no `>` goes on, so that the set of what goes on may be without it.
-use Rattle.std.proofs.Common.{◌≡◌, ℕ, Bool, true, false, not, ◌&&◌, ◌==◌, List, [], ◌∷◌, ◌++◌, None, Some, Ok, Err, inl, inr, refl, ap, sym, ◌∙◌, subst, append_assoc}
+use Rattle.std.proofs.Common.{◌≡◌, ℕ, Bool, true, false, not, ◌&&◌, ◌==◌, List, [], ◌∷◌, ◌++◌, None, Some, Ok, Err, inl, inr, refl, ap, sym, ◌∙◌, subst}
 use Rattle.std.proofs.lemmas.List.{append-nil}
 use Rattle.dart_base.specs.declared.place.Place.{Place}
 use Rattle.dart_token.specs.declared.token.Token.{Token}
@@ -14,7 +14,8 @@ use Rattle.grammar_laws.proofs.Joints.{one_more}
 use Rattle.token_codes.specs.Codes.{class_of, these, sign_code}
 use Rattle.token_codes.proofs.Only.{only_sign}
 use Rattle.syntax_readers.specs.Combinators.{Open}
-use Rattle.laws_expr.proofs.Open.{OpenLaws, Settled, open_spelling, half_tokens, after_open}
+use Rattle.laws_expr.proofs.Open.{OpenLaws, Settled, open_spelling, after_open, half_said}
+use Rattle.laws_expr.proofs.Sets.{not_false}
 
 -- ---- a set without one code
 
@@ -74,21 +75,18 @@ module _ {A : Type 0} {read : Reader Token (Open A)} {tokens : A → List Token}
   abbrev pub reads_half : A → Bool
   reads_half x = took (read (open_spelling tokens (x, None) ++ sign_at origin s.Greater ∷ []))
 
-  half_said : (x : A) (g : Place) (rest : List Token) → open_spelling tokens (x, None) ++ sign_at g s.Greater ∷ rest ≡ open_spelling tokens (x, Some g) ++ rest
-  half_said x g rest = append_assoc (tokens x) [] (sign_at g s.Greater ∷ rest) ∙ sym (append_assoc (tokens x) (half_tokens g) rest)
-
   pub half_read : (x : A) → Settled P x → reads_half x ≡ true → (g : Place) → P.Fits (x, Some g)
   half_read x (inl known) on = known
   half_read x (inr stays) on = clash (reads_half x) on (ap took (stays origin []))
 
   pub half_left : (x : A) → Settled P x → reads_half x ≡ false → Stays x
-  half_left x (inl known) off = clash (reads_half x) (ap took (ap read (half_said x origin []) ∙ P.laws.complete (x, Some origin) [] (known origin) refl)) off
+  half_left x (inl known) off = clash (reads_half x) (ap took (ap read (half_said tokens x origin []) ∙ P.laws.complete (x, Some origin) [] (known origin) refl)) off
   half_left x (inr stays) off = stays
 
   -- a tree that is read with its half is never left before a `>`
   pub never_left : {X : Type 0} (ts : List Token) (x : A) (t : Token) (rest : List Token) → has (these s.Greater) (class_of t) ≡ true → ((g : Place) → P.Fits (x, Some g)) → read ts ≡ Ok ((x, None), t ∷ rest) → X
   never_left ts x t rest is known e =
-      absurd (P.laws.longest ts (x, None) t rest e (subst front (sym (half_said x t.place []) ∙ ap (λ (u : Token). open_spelling tokens (x, None) ++ u ∷ []) (only_sign s.Greater t is)) (subst front (sym (append-nil (open_spelling tokens (x, Some t.place)))) (P.laws.whole (x, Some t.place) (known t.place)))))
+      absurd (P.laws.longest ts (x, None) t rest e (subst front (sym (half_said tokens x t.place []) ∙ ap (λ (u : Token). open_spelling tokens (x, None) ++ u ∷ []) (only_sign s.Greater t is)) (subst front (sym (append-nil (open_spelling tokens (x, Some t.place)))) (P.laws.whole (x, Some t.place) (known t.place)))))
 
   module _ (asks : A → Bool) (settled : (x : A) → F x → asks x ≡ true → Settled P x) where
     abbrev left : A → Bool
@@ -101,12 +99,8 @@ module _ {A : Type 0} {read : Reader Token (Open A)} {tokens : A → List Token}
     abbrev pub sharp : A → List ℕ
     sharp x = sharp_by (left x) (next x)
 
-    off : (b : Bool) → not b ≡ true → b ≡ false
-    off true e = absurd cc
-    off false e = refl
-
     left_stays : (x : A) → F x → left x ≡ true → Stays x
-    left_stays x fits e = let w = and_both (asks x) (not (reads_half x)) e in half_left x (settled x fits w.0) (off (reads_half x) w.1)
+    left_stays x fits e = let w = and_both (asks x) (not (reads_half x)) e in half_left x (settled x fits w.0) (not_false (reads_half x) w.1)
 
     complete_by : (x : A) (rest : List Token) (b : Bool) → left x ≡ b → P.Fits (x, None) → Stops class_of (sharp_by b (next x)) rest → read (open_spelling tokens (x, None) ++ rest) ≡ Ok ((x, None), rest)
     complete_by x rest false e fits stop = P.laws.complete (x, None) rest fits stop

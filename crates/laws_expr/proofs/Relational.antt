@@ -5,7 +5,6 @@ use Rattle.std.proofs.lemmas.List.{append-nil}
 use Rattle.dart_base.specs.declared.place.Place.{Place}
 use Rattle.dart_token.specs.declared.token.Token.{Token}
 use Rattle.dart_token.specs.declared.sign.Sign.TheVariants as s
-use Rattle.dart_token.specs.declared.word.Word.{Word}
 use Rattle.dart_token.specs.declared.word.Word.TheVariants as w
 use Rattle.dart_tree.specs.declared.operator.Operator.{Operator}
 use Rattle.dart_tree.specs.declared.operator.Operator.TheVariants as o
@@ -28,66 +27,25 @@ use Rattle.grammar_laws.proofs.Continued.{continued_by_laws}
 use Rattle.dart_syntax.specs.Phrases.{Anything}
 use Rattle.dart_syntax.specs.Leaves as l
 use Rattle.dart_syntax.specs.Leaves.{sign_tokens, word_tokens}
-use Rattle.dart_syntax.specs.Edges.{opens_less, opens_dot, opens_nothing, leaves, leaves_less, operand_takes, tails_take}
+use Rattle.dart_syntax.specs.Edges.{opens_less, opens_dot, opens_nothing, leaves, leaves_less, operand_takes}
 use Rattle.dart_syntax.specs.Edges as edge
-use Rattle.dart_syntax.specs.Levels.{level}
 use Rattle.token_codes.specs.Codes.{class_of, sign_code, these, this_word}
-use Rattle.token_codes.proofs.Leaves.{sign_reads, word_reads, one_of_reads}
-use Rattle.syntax_readers.specs.Combinators.{Open, with_half}
+use Rattle.token_codes.proofs.Leaves.{sign_reads, one_of_reads}
+use Rattle.syntax_readers.specs.Combinators.{Open}
 use Rattle.syntax_readers.specs.Primaries.{operand_first}
 use Rattle.syntax_readers.specs.Types.{type_first}
-use Rattle.syntax_readers.specs.Levels.{is_bare, whole, comparing, Compared, compared, tested, cast, joined_compared, compare_codes, compared_with, relational}
+use Rattle.syntax_readers.specs.Levels.{is_bare, whole, comparing, compared, tested, cast, joined_compared, compare_codes, compared_with, relational}
 use Rattle.laws_type.specs.Nexts.{after_type}
 use Rattle.laws_expr.specs.Nexts.{Taking, nexts, taken, operand_alone, after_operand}
-use Rattle.laws_expr.proofs.Begun.{swap, apart_when, front_starts, none_or, either_map}
+use Rattle.laws_expr.proofs.Begun.{front_starts, none_or, either_map}
 use Rattle.laws_expr.proofs.Behind.{operand_alone_within}
-use Rattle.laws_expr.proofs.Open.{OpenLaws, Settled, stops_before, open_spelling, half_tokens, after_open, bare, tree, no_some}
-use Rattle.laws_expr.proofs.Edges.{apart_but, within_at, taken_moves, operand_moves, given_off}
-use Rattle.laws_expr.proofs.Chain.{half_of, half_operand, half_moves, looser, looser_half, not_false, left_apart}
-use Rattle.laws_expr.proofs.Once.{last_takes}
-use Rattle.laws_expr.proofs.Refined.{origin, reads_half, half_read, never_left, sharp, sharp_within, sharp_apart, refined_laws}
+use Rattle.laws_expr.proofs.Open.{OpenLaws, Settled, stops_before, open_spelling, half_tokens, after_open, bare, tree, no_some, tree_fits}
+use Rattle.laws_expr.proofs.Edges.{apart_but, within_at}
+use Rattle.laws_expr.proofs.Chain.{half_of, half_operand, looser, looser_half, left_apart}
+use Rattle.laws_expr.proofs.Refined.{reads_half, half_read, never_left, sharp, sharp_within, sharp_apart, refined_laws}
 use Rattle.laws_expr.proofs.Guarded.{guarded, GuardedFit, guarded_front, guarded_laws}
-use Rattle.laws_expr.proofs.Comparing.{is_on, as_on, others, types, Lesser, Rest, comparing_level, Behind, spelled, after_behind, operators_front, tested_front, cast_front, compared_front, BehindFits, behind_front, behind_first, behind_reader, tested_laws, cast_laws, behind_laws, mix, rest_codes, less_in, rest_in, types_in, less_on, greater_on, others_on, types_on}
-
--- ---- the grammar's nodes
-
-abbrev item_node : Operand × (Operator × Operand) → Operand
-item_node x = t.binary x.0 (t.tail x.1.0 x.1.1 t.no_tails)
-
-abbrev is_node : Operand × (Place × (Option Place × TypeNode)) → Operand
-is_node x = t.is_type x.0 x.1.0 x.1.1.0 x.1.1.1
-
-abbrev as_node : Operand × (Place × TypeNode) → Operand
-as_node x = t.as_type x.0 x.1.0 x.1.1
-
--- the operator of which the half was read
-abbrev greater_of : Option Place → Operator
-greater_of None = o.Sign origin s.Greater
-greater_of (Some g) = o.Sign g s.Greater
-
-abbrev join : Open Operand × Option Behind → Open Operand
-join (x, None) = x
-join (x, Some (inl y)) = with_half (λ z. t.binary x.0 (t.tail (greater_of x.1) z t.no_tails)) y
-join (x, Some (inr (compared operator y))) = with_half (λ z. t.binary x.0 (t.tail operator z t.no_tails)) y
-join (x, Some (inr (tested place bang of))) = (t.is_type x.0 place bang of, None)
-join (x, Some (inr (cast place of))) = (t.as_type x.0 place of, None)
-
-item_on : (x : Operand) (operator : Operator) (y : Open Operand) → level operator ≡ 5 → Within (after_open (after_operand 6) (half_operand 6) y) (after_open (after_operand 5) (half_operand 5) (with_half (λ z. t.binary x (t.tail operator z t.no_tails)) y))
-unfolding operand_takes operand_alone
-item_on x operator (y, None) e =
-    let takes : Taking = λ next opens. tails_take next opens 5 (t.tail operator y t.no_tails) in
-    within_union (within_then (taken_moves nexts (λ next opens. operand_takes next opens 6 y) takes (last_takes 5 operator y e)) (within_left (taken takes) (operand_alone y))) (within_right (taken takes) (operand_alone y))
-item_on x operator (y, Some g) e = half_moves (λ next opens. operand_takes next opens 6 y) (λ next opens. tails_take next opens 5 (t.tail operator y t.no_tails)) (operand_alone y) (last_takes 5 operator y e)
-
-left_off : (opens : TypeNode → Bool) (x : Operand) → operand_takes 5 opens edge.nowhere x ≡ false → operand_takes 5 opens 6 x ≡ false
-left_off opens x left = not_true (operand_takes 5 opens 6 x) (λ e. clash (operand_takes 5 opens edge.nowhere x) (operand_moves 5 opens x 6 edge.nowhere (inr (inl (omega arith))) e) left)
-
--- no `>` goes on behind a type
-type_closed : (a b : Bool) → has ((given a (these s.Less) ++ (given b (these s.Dot) ++ [])) ++ []) (sign_code s.Greater) ≡ false
-type_closed true true = refl
-type_closed true false = refl
-type_closed false true = refl
-type_closed false false = refl
+use Rattle.laws_expr.proofs.Comparing.{is_on, as_on, others, types, Lesser, Rest, comparing_level, Behind, spelled, after_behind, operators_front, tested_front, cast_front, compared_front, BehindFits, behind_front, behind_first, behind_reader, tested_laws, cast_laws, behind_laws, mix, rest_codes, less_in, rest_in, types_in, less_on, greater_on, others_on, types_on, item_node, is_node, as_node, join, item_on, left_off, type_closed, same_half, same_none, to_raw, same_bool, lesser_begins, rest_begins, word_begins, widen}
+use Rattle.laws_expr.proofs.Sets.{swap, apart_when, given_off, not_false}
 
 -- ---- the row
 
@@ -188,14 +146,6 @@ module _ (n : ℕ)
       (Either (Joint operand_tokens E (leaves 5) efront (Joint (word_tokens w.Is) Anything always (l.word w.Is).front (Joint (option_spelling (sign_tokens s.Bang)) (OptionFit Anything) always (l.sign s.Bang).front tfront)))
       (Joint operand_tokens E (leaves 5) efront (Joint (word_tokens w.As) Anything always (l.word w.As).front tfront))))
 
-  here_out : (x : Open Operand) → H.Fits x → F x.0
-  here_out (x, None) fits = H.none_out x fits
-  here_out (x, Some g) fits = H.some_out x g fits
-
-  low_out : (x : Open Operand) → L.Fits x → U x.0
-  low_out (x, None) fits = L.none_out x fits
-  low_out (x, Some g) fits = L.some_out x g fits
-
   below : (x : Operand) → F x → room x ≡ true → D x
   below x fits low = down x fits (below_is operand_height n x low)
 
@@ -224,38 +174,24 @@ module _ (n : ℕ)
   half_known x g [] on = absurd cc
   half_known x g (u ∷ ts) on = and_both (room x) (leaves 5 x) (given_has (room x && leaves 5 x) operand_first (class_of u) on).0
 
-  -- what begins an operator of a kind
-  lesser_begins : (op : Operator) (rest : List Token) → Lesser op → starts class_of (these s.Less) (operator_tokens op ++ rest) ≡ true
-  lesser_begins op rest fits = begins (one_of_reads (s.Less ∷ []) (apart refl, tt)) op rest fits
-
-  rest_begins : (op : Operator) (rest : List Token) → Rest op → starts class_of rest_codes (operator_tokens op ++ rest) ≡ true
-  rest_begins op rest fits = begins (one_of_reads (s.Greater ∷ s.LessEqual ∷ s.GreaterEqual ∷ []) (apart refl, (apart refl, (apart refl, tt)))) op rest fits
-
-  word_begins : (which : Word) (place : Place) (rest : List Token) → starts class_of (this_word which) (word_tokens which place ++ rest) ≡ true
-  word_begins which place rest = begins (word_reads which) place rest tt
-
-  widen : (xs ys : List ℕ) (ts : List Token) → Within xs ys → starts class_of xs ts ≡ true → starts class_of ys ts ≡ true
-  widen xs ys [] sub e = absurd cc
-  widen xs ys (u ∷ ts) sub e = sub.in_second (class_of u) e
-
   node_of : (x : Operand) (h : Option Place) (b : Behind) → H.Fits (x, h) → BehindFits Types lower L h b → starts class_of (codes (x, h)) (spelled b) ≡ true → Node (join ((x, h), Some b)).0
   node_of x None (inl y) fits known on = absurd known
   node_of x (Some g) (inr c) fits known on = absurd known
   node_of x (Some g) (inl y) fits known on =
       let k = half_known x g (spelled (inl y)) on in
-      inr (inl ((x, (o.Sign g s.Greater, y.0)), ((below x (here_out (x, Some g) fits) k.0, k.1), (inl (g, tt, refl), low_out y known)), refl))
+      inr (inl ((x, (o.Sign g s.Greater, y.0)), ((below x (tree_fits H (x, Some g) fits) k.0, k.1), (inl (g, tt, refl), tree_fits L y known)), refl))
   node_of x None (inr (compared op y)) fits (inl less, known) on =
       let k = less_known x None (spelled (inr (compared op y))) refl on (lesser_begins op (open_spelling operand_tokens y) (inl less)) in
-      inl ((x, (op, y.0)), ((below x (here_out (x, None) fits) k.0, k.1), (inl less, low_out y known)), refl)
+      inl ((x, (op, y.0)), ((below x (tree_fits H (x, None) fits) k.0, k.1), (inl less, tree_fits L y known)), refl)
   node_of x None (inr (compared op y)) fits (inr rest, known) on =
       let k = rest_known x None (spelled (inr (compared op y))) refl on (rest_begins op (open_spelling operand_tokens y) rest) in
-      inr (inl ((x, (op, y.0)), ((below x (here_out (x, None) fits) k.0, k.1), (rest, low_out y known)), refl))
+      inr (inl ((x, (op, y.0)), ((below x (tree_fits H (x, None) fits) k.0, k.1), (rest, tree_fits L y known)), refl))
   node_of x None (inr (tested place bang of)) fits known on =
       let k = types_known x None (spelled (inr (tested place bang of))) refl on (widen (this_word w.Is) types (spelled (inr (tested place bang of))) (inside refl) (word_begins w.Is place (option_spelling (sign_tokens s.Bang) bang ++ type_tokens of))) in
-      inr (inr (inl ((x, (place, (bang, of))), ((plain x (below x (here_out (x, None) fits) k.0) k.1.1, k.1.0), (tt, (known.0, known.1))), refl)))
+      inr (inr (inl ((x, (place, (bang, of))), ((plain x (below x (tree_fits H (x, None) fits) k.0) k.1.1, k.1.0), (tt, (known.0, known.1))), refl)))
   node_of x None (inr (cast place of)) fits known on =
       let k = types_known x None (spelled (inr (cast place of))) refl on (widen (this_word w.As) types (spelled (inr (cast place of))) (inside refl) (word_begins w.As place (type_tokens of))) in
-      inr (inr (inr ((x, (place, of)), ((plain x (below x (here_out (x, None) fits) k.0) k.1.1, k.1.0), (tt, known)), refl)))
+      inr (inr (inr ((x, (place, of)), ((plain x (below x (tree_fits H (x, None) fits) k.0) k.1.1, k.1.0), (tt, known)), refl)))
 
   none_out : (z : Operand) → Made join PartsFit (z, None) → EitherFit F Node z
   none_out z (((x, None), None), fits, e) = inl (subst F (ap tree e) (H.none_out x fits.0))
@@ -404,7 +340,7 @@ module _ (n : ℕ)
   out ts (inr ((x, h), more, fits, go, e, inl none)) = inl (subst front (sym (e ∙ ap (λ (m : List Token). open_spelling operand_tokens (x, h) ++ m) none ∙ append-nil (open_spelling operand_tokens (x, h)))) (H.laws.whole (x, h) fits))
   out ts (inr ((x, Some g), more, fits, go, e, inr (f, on))) =
       let k = half_known x g more on in
-      inr (inr (inl (inr (x, sign_at g s.Greater ∷ more, below x (here_out (x, Some g) fits) k.0, k.1, e ∙ append_assoc (operand_tokens x) (half_tokens g) more, inr (o.Sign g s.Greater, more, inl (g, tt, refl), refl, refl, f)))))
+      inr (inr (inl (inr (x, sign_at g s.Greater ∷ more, below x (tree_fits H (x, Some g) fits) k.0, k.1, e ∙ append_assoc (operand_tokens x) (half_tokens g) more, inr (o.Sign g s.Greater, more, inl (g, tt, refl), refl, refl, f)))))
   out ts (inr ((x, None), more, fits, go, e, inr (f, on))) = compared_out x ts more (H.none_out x fits) (e ∙ ap (λ (m : List Token). m ++ more) (append-nil (operand_tokens x))) on f
 
   -- an operator that is read behind the operand alone
@@ -462,28 +398,6 @@ module _ (n : ℕ)
   abbrev own_tail : Bool → Reader Token Behind → Open Operand → List Token → Outcome Token (Open Operand)
   own_tail c q x mid = and_then (and_then (when c q mid) (λ y rest. Ok ((x, y), rest))) (λ y rest. Ok (join y, rest))
 
-  abbrev raw_half : Operand → Place → Outcome Token (Open Operand) → Outcome Token (Open Operand)
-  raw_half x g r = and_then (and_then (and_then (and_then r (λ y rest. Ok (compared (o.Sign g s.Greater) y, rest))) (λ y rest. Ok (Some y, rest))) (λ y rest. Ok (((x, Some g), y), rest))) (λ y rest. Ok (joined_compared y, rest))
-
-  abbrev own_half : Operand → Place → Outcome Token (Open Operand) → Outcome Token (Open Operand)
-  own_half x g r = and_then (and_then (and_then (and_then r (λ y rest. Ok (inl y, rest))) (λ y rest. Ok (Some y, rest))) (λ y rest. Ok (((x, Some g), y), rest))) (λ y rest. Ok (join y, rest))
-
-  same_half : (x : Operand) (g : Place) (r : Outcome Token (Open Operand)) → raw_half x g r ≡ own_half x g r
-  same_half x g (Ok y) = refl
-  same_half x g (Err rest) = refl
-
-  abbrev raw_none : Operand → Outcome Token Compared → Outcome Token (Open Operand)
-  raw_none x r = and_then (and_then (and_then r (λ y rest. Ok (Some y, rest))) (λ y rest. Ok (((x, None), y), rest))) (λ y rest. Ok (joined_compared y, rest))
-
-  abbrev own_none : Operand → Outcome Token Compared → Outcome Token (Open Operand)
-  own_none x r = and_then (and_then (and_then (and_then r (λ c rest. Ok (inr c, rest))) (λ y rest. Ok (Some y, rest))) (λ y rest. Ok (((x, None), y), rest))) (λ y rest. Ok (join y, rest))
-
-  same_none : (x : Operand) (r : Outcome Token Compared) → raw_none x r ≡ own_none x r
-  same_none x (Ok (compared operator y, rest)) = refl
-  same_none x (Ok (tested place bang of, rest)) = refl
-  same_none x (Ok (cast place of, rest)) = refl
-  same_none x (Err rest) = refl
-
   half_tail : (x : Operand) (g : Place) (mid : List Token) (c : Bool) → starts class_of (codes (x, Some g)) mid ≡ c → raw_tail c (x, Some g) mid ≡ own_tail c (behind (x, Some g)) (x, Some g) mid
   unfolding compared_with
   half_tail x g mid false e = refl
@@ -492,29 +406,6 @@ module _ (n : ℕ)
   none_tail : (x : Operand) (mid : List Token) (c : Bool) → starts class_of (codes (x, None)) mid ≡ c → raw_tail c (x, None) mid ≡ own_tail c (behind (x, None)) (x, None) mid
   none_tail x mid false e = refl
   none_tail x mid true e = same_none x (compared_with None type lower mid) ∙ ap (λ (b : Bool). own_tail true (λ ts. if b then part None ts else nothing ts) (x, None) mid) (sym e)
-
-  -- the codes of the reader itself have `>` wherever an operand leaves it
-  abbrev raw_mix : Bool → Bool → Bool → Bool → List ℕ
-  raw_mix r l c d = given r ((given l (these s.Less) ++ given c rest_codes) ++ given d types)
-
-  to_raw : (r l k c d : Bool) → (k ≡ true → c ≡ true) → Within (mix r l k c d) (raw_mix r l c d)
-  to_raw r l k c d on =
-      let less : List ℕ = given l (these s.Less) in
-      let rest : List ℕ = given c rest_codes in
-      let words : List ℕ = given d types in
-      let in_rest : Within rest ((less ++ rest) ++ words) = within_then (within_right less rest) (within_left (less ++ rest) words) in
-      within_given r (λ e. in_given r e (within_union (within_then (within_left less rest) (within_left (less ++ rest) words))
-      (within_union (within_given k (λ f. within_then (in_given c (on f) (inside {xs = these s.Greater} {ys = rest_codes} refl)) in_rest))
-      (within_union (within_given c (λ f. within_then (in_given c f (inside {xs = others} {ys = rest_codes} refl)) in_rest)) (within_right (less ++ rest) words))))) where
-        in_given : {xs ys : List ℕ} (b : Bool) → b ≡ true → Within xs ys → Within xs (given b ys)
-        in_given true e sub = sub
-        in_given false e sub = absurd cc
-
-  same_bool : (a b : Bool) → (a ≡ true → b ≡ true) → (b ≡ true → a ≡ true) → a ≡ b
-  same_bool true true f g = refl
-  same_bool false false f g = refl
-  same_bool true false f g = sym (f refl)
-  same_bool false true f g = g refl
 
   -- where the reader stops before a `>` it leaves it
   never_kept : (ts : List Token) (x : Operand) (u : Token) (mid : List Token) → here ts ≡ Ok ((x, None), u ∷ mid) → leaves 5 x ≡ true → has (these s.Greater) (class_of u) ≡ true → keeps x ≡ false

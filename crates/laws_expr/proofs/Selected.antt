@@ -17,7 +17,7 @@ use Rattle.grammar_laws.specs.Readers.{Outcome, Reader, and_then, always, never,
 use Rattle.grammar_laws.specs.Depth.{is_below}
 use Rattle.grammar_laws.specs.Fronts.{Front, Joint, JointBy, Several, Either, EitherFit, BothFit, GoesOn, GoodFit, ContinuedFitBy, Made, joined_spelling}
 use Rattle.grammar_laws.specs.Laws.{Laws}
-use Rattle.grammar_laws.proofs.Codes.{apart, apart_none, apart_smaller, apart_union, not_true, has_cases, inside, only_code, within_none, within_then, within_union, within_given, within_self, within_left, within_right}
+use Rattle.grammar_laws.proofs.Codes.{apart, apart_none, apart_smaller, apart_union, not_true, has_cases, inside, only_code, within_none, within_then, within_union, within_given, within_self, within_left, within_right, given_has}
 use Rattle.grammar_laws.proofs.Depth.{below_is, is_below_by}
 use Rattle.grammar_laws.proofs.Joints.{begins, stops_within}
 use Rattle.grammar_laws.proofs.Restated.{made_laws, refront, reread}
@@ -33,22 +33,17 @@ use Rattle.syntax_readers.specs.Primaries.{ExprReaders, selector_first, selector
 use Rattle.syntax_readers.specs.Levels as r
 use Rattle.syntax_readers.specs.Levels.{assigns, selected_of, selected, target}
 use Rattle.laws_expr.specs.Nexts.{Taking, nexts, taken, stepping, operand_alone, primary_alone, after_primary, after_operand}
-use Rattle.laws_expr.proofs.Begun.{swap, apart_when, front_starts, either_map}
+use Rattle.laws_expr.proofs.Begun.{front_starts, either_map}
 use Rattle.laws_expr.proofs.Known.{ClosedRead}
-use Rattle.laws_expr.proofs.Open.{OpenLaws, open_spelling, after_open, bare, tree, no_some, open_checked_laws, open_restated, open_wider}
+use Rattle.laws_expr.proofs.Open.{OpenLaws, open_spelling, after_open, bare, tree, no_some, open_checked_laws, open_restated, open_wider, tree_fits}
 use Rattle.laws_expr.proofs.Edges.{apart_but, within_at, taken_moves, operand_moves}
-use Rattle.laws_expr.proofs.Chain.{half_operand, half_moves, not_false}
+use Rattle.laws_expr.proofs.Chain.{half_operand, half_moves}
 use Rattle.laws_expr.proofs.Functions.{half_primary}
 use Rattle.laws_expr.proofs.Throwing.{half_third}
 use Rattle.laws_expr.proofs.Guarded.{guarded, GuardedFit, guarded_front, guarded_laws}
 use Rattle.laws_expr.proofs.Selecting.{primary_unselected}
 use Rattle.laws_expr.proofs.Selectors.{member_laws, bracketed_laws, selectors_laws}
-
--- ---- sets
-
-given_when : (b : Bool) (xs : List ℕ) (n : ℕ) → has (given b xs) n ≡ true → (b ≡ true) × (has xs n ≡ true)
-given_when true xs n h = (refl, h)
-given_when false xs n h = absurd cc
+use Rattle.laws_expr.proofs.Sets.{swap, apart_when, not_false}
 
 -- ---- `super` alone
 
@@ -205,14 +200,11 @@ module _ (n : ℕ) {inner : ExprReaders} {nodes : g.ExprNodes} (N : ClosedRead i
 
   -- ---- which selectors come, by a token's code
 
-  abbrev Admits : Open Primary → ℕ → Type 0
-  Admits x code = has (codes x) code ≡ true
-
   dot_admits : (x : Primary) (h : Option Place) → has (codes (x, h)) (sign_code s.Dot) ≡ true → (h ≡ None) × ((alone_super x ≡ false) × ((room x ≡ true) × (primary_leaves opens_dot x ≡ true)))
   dot_admits x (Some h) e = absurd cc
   dot_admits x None e =
-      let a = given_when (not (alone_super x)) (r.selects n (x, None)) (sign_code s.Dot) e in
-      let b = given_when (room x) (given (primary_leaves opens_dot x) (these s.Dot) ++ given (primary_leaves opens_nothing x) bracket_codes) (sign_code s.Dot) a.1 in
+      let a = given_has (not (alone_super x)) (r.selects n (x, None)) (sign_code s.Dot) e in
+      let b = given_has (room x) (given (primary_leaves opens_dot x) (these s.Dot) ++ given (primary_leaves opens_nothing x) bracket_codes) (sign_code s.Dot) a.1 in
       (refl, (not_false (alone_super x) a.0, (b.0, only_dot (primary_leaves opens_dot x) (primary_leaves opens_nothing x) b.1))) where
         only_dot : (c d : Bool) → has (given c (these s.Dot) ++ given d bracket_codes) (sign_code s.Dot) ≡ true → c ≡ true
         only_dot true d h = refl
@@ -222,8 +214,8 @@ module _ (n : ℕ) {inner : ExprReaders} {nodes : g.ExprNodes} (N : ClosedRead i
   bracket_admits : (x : Primary) (h : Option Place) (code : ℕ) → has bracket_codes code ≡ true → has (codes (x, h)) code ≡ true → (h ≡ None) × ((alone_super x ≡ false) × ((room x ≡ true) × (primary_leaves opens_nothing x ≡ true)))
   bracket_admits x (Some h) code is e = absurd cc
   bracket_admits x None code is e =
-      let a = given_when (not (alone_super x)) (r.selects n (x, None)) code e in
-      let b = given_when (room x) (given (primary_leaves opens_dot x) (these s.Dot) ++ given (primary_leaves opens_nothing x) bracket_codes) code a.1 in
+      let a = given_has (not (alone_super x)) (r.selects n (x, None)) code e in
+      let b = given_has (room x) (given (primary_leaves opens_dot x) (these s.Dot) ++ given (primary_leaves opens_nothing x) bracket_codes) code a.1 in
       (refl, (not_false (alone_super x) a.0, (b.0, only_bracket (primary_leaves opens_dot x) (primary_leaves opens_nothing x) b.1))) where
         off : Apart (these s.Dot) bracket_codes
         off = apart refl
@@ -283,18 +275,14 @@ module _ (n : ℕ) {inner : ExprReaders} {nodes : g.ExprNodes} (N : ClosedRead i
   abbrev pub Chosen : Operand → Type 0
   Chosen = Made (λ (x : Primary × (Selector × List Selector)). t.postfix x.0 (one_or_more_selectors x.1) None) SelectedFits
 
-  primary_out : (x : Open Primary) → Q.Fits x → P x.0
-  primary_out (x, None) fits = Q.none_out x fits
-  primary_out (x, Some h) fits = Q.some_out x h fits
-
   selected_fits : (x : Primary) (h : Option Place) (k : Selector) (more : List Selector) → Q.Fits (x, h) → Kind k → AllByRecursion Kind more → starts class_of (codes (x, h)) (selector_tokens k ++ all_spell more) ≡ true → (h ≡ None) × SelectedFits (x, (k, more))
   selected_fits x h k more fits (inl d) rest on =
       let a = dot_admits x h (first_code (codes (x, h)) (sign_code s.Dot) (selector_tokens k ++ all_spell more) on (begins member_laws k (all_spell more) d)) in
-      (a.0, inl ((down x (primary_out (x, h) fits) a.1.0 (below_is primary_height n x a.1.1.0), a.1.1.1), (d, rest)))
+      (a.0, inl ((down x (tree_fits Q (x, h) fits) a.1.0 (below_is primary_height n x a.1.1.0), a.1.1.1), (d, rest)))
   selected_fits x h k more fits (inr b) rest on =
       let c = first_of (codes (x, h)) bracket_codes (selector_tokens k ++ all_spell more) on (begins (bracketed_laws N) k (all_spell more) b) in
       let a = bracket_admits x h c.0 c.2 c.1 in
-      (a.0, inr ((down x (primary_out (x, h) fits) a.1.0 (below_is primary_height n x a.1.1.0), a.1.1.1), (b, rest)))
+      (a.0, inr ((down x (tree_fits Q (x, h) fits) a.1.0 (below_is primary_height n x a.1.1.0), a.1.1.1), (b, rest)))
 
   dot_on : (x : Primary) → D x → primary_leaves opens_dot x ≡ true → (ts : List Token) → starts class_of (these s.Dot) ts ≡ true → starts class_of (codes (x, None)) ts ≡ true
   dot_on x d left ts e =
@@ -352,20 +340,20 @@ module _ (n : ℕ) {inner : ExprReaders} {nodes : g.ExprNodes} (N : ClosedRead i
   one_out : (x : Primary) (h : Option Place) (ts more : List Token) → Q.Fits (x, h) → ts ≡ open_spelling primary_tokens (x, h) ++ more → kind_front more → starts class_of (codes (x, h)) more ≡ true → Whole ts
   one_out x h ts more fits e (inl m) on =
       let a = dot_admits x h (first_code (codes (x, h)) (sign_code s.Dot) more on (front_starts (codes (x, h)) (these s.Dot) g.member.front member_laws.firsts more m on)) in
-      inr (inl (inr (x, more, down x (primary_out (x, h) fits) a.1.0 (below_is primary_height n x a.1.1.0), a.1.1.1, e ∙ ap (λ (o : Option Place). open_spelling primary_tokens (x, o) ++ more) a.0 ∙ ap (λ (m : List Token). m ++ more) (append-nil (primary_tokens x)), inl m)))
+      inr (inl (inr (x, more, down x (tree_fits Q (x, h) fits) a.1.0 (below_is primary_height n x a.1.1.0), a.1.1.1, e ∙ ap (λ (o : Option Place). open_spelling primary_tokens (x, o) ++ more) a.0 ∙ ap (λ (m : List Token). m ++ more) (append-nil (primary_tokens x)), inl m)))
   one_out x h ts more fits e (inr b) on =
       let c = first_of (codes (x, h)) bracket_codes more on (front_starts (codes (x, h)) bracket_codes (g.bracketed_of nodes).front (bracketed_laws N).firsts more b on) in
       let a = bracket_admits x h c.0 c.2 c.1 in
-      inr (inr (inr (x, more, down x (primary_out (x, h) fits) a.1.0 (below_is primary_height n x a.1.1.0), a.1.1.1, e ∙ ap (λ (o : Option Place). open_spelling primary_tokens (x, o) ++ more) a.0 ∙ ap (λ (m : List Token). m ++ more) (append-nil (primary_tokens x)), inl b)))
+      inr (inr (inr (x, more, down x (tree_fits Q (x, h) fits) a.1.0 (below_is primary_height n x a.1.1.0), a.1.1.1, e ∙ ap (λ (o : Option Place). open_spelling primary_tokens (x, o) ++ more) a.0 ∙ ap (λ (m : List Token). m ++ more) (append-nil (primary_tokens x)), inl b)))
 
   several_out : (x : Primary) (h : Option Place) (ts more : List Token) (k : Selector) (rest : List Token) → Q.Fits (x, h) → ts ≡ open_spelling primary_tokens (x, h) ++ more → Kind k → more ≡ selector_tokens k ++ rest → all_front rest → starts class_of (codes (x, h)) more ≡ true → Whole ts
   several_out x h ts more k rest fits e (inl d) is f on =
       let a = dot_admits x h (first_code (codes (x, h)) (sign_code s.Dot) more on (ap (starts class_of (these s.Dot)) is ∙ begins member_laws k rest d)) in
-      inr (inl (inr (x, more, down x (primary_out (x, h) fits) a.1.0 (below_is primary_height n x a.1.1.0), a.1.1.1, e ∙ ap (λ (o : Option Place). open_spelling primary_tokens (x, o) ++ more) a.0 ∙ ap (λ (m : List Token). m ++ more) (append-nil (primary_tokens x)), inr (k, rest, d, refl, is, f))))
+      inr (inl (inr (x, more, down x (tree_fits Q (x, h) fits) a.1.0 (below_is primary_height n x a.1.1.0), a.1.1.1, e ∙ ap (λ (o : Option Place). open_spelling primary_tokens (x, o) ++ more) a.0 ∙ ap (λ (m : List Token). m ++ more) (append-nil (primary_tokens x)), inr (k, rest, d, refl, is, f))))
   several_out x h ts more k rest fits e (inr b) is f on =
       let c = first_of (codes (x, h)) bracket_codes more on (ap (starts class_of bracket_codes) is ∙ begins (bracketed_laws N) k rest b) in
       let a = bracket_admits x h c.0 c.2 c.1 in
-      inr (inr (inr (x, more, down x (primary_out (x, h) fits) a.1.0 (below_is primary_height n x a.1.1.0), a.1.1.1, e ∙ ap (λ (o : Option Place). open_spelling primary_tokens (x, o) ++ more) a.0 ∙ ap (λ (m : List Token). m ++ more) (append-nil (primary_tokens x)), inr (k, rest, b, refl, is, f))))
+      inr (inr (inr (x, more, down x (tree_fits Q (x, h) fits) a.1.0 (below_is primary_height n x a.1.1.0), a.1.1.1, e ∙ ap (λ (o : Option Place). open_spelling primary_tokens (x, o) ++ more) a.0 ∙ ap (λ (m : List Token). m ++ more) (append-nil (primary_tokens x)), inr (k, rest, b, refl, is, f))))
 
   out : (ts : List Token) → PartsFront ts → Whole ts
   out ts (inl f) = inl f

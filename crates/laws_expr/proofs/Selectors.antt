@@ -4,7 +4,7 @@ use Rattle.std.specs.List.{AllByRecursion}
 use Rattle.dart_token.specs.declared.token.Token.{Token}
 use Rattle.dart_token.specs.declared.sign.Sign.TheVariants as s
 use Rattle.dart_tree.specs.Tree as t
-use Rattle.dart_tree.specs.Tree.{Expr, Selector, Selectors, Arguments}
+use Rattle.dart_tree.specs.Tree.{Expr, Selector}
 use Rattle.dart_tree.specs.Tokens.{expr_tokens, selector_tokens, selectors_tokens}
 use Rattle.grammar_laws.specs.Codes.{nowhere, is_empty}
 use Rattle.grammar_laws.specs.Readers.{Reader, always, mapped, by_first}

@@ -1,106 +1,53 @@
 -- The law of the row of shifts (ECMA-408, 16.26 Shift): behind an operand stands `<<`, or the half of `> >` that was read with it and the other half.
-use Rattle.std.proofs.Common.{◌≡◌, ℕ, suc, max, ◌<◌, Bool, true, false, if◌then◌else◌, ◌&&◌, ◌||◌, List, [], ◌∷◌, ◌++◌, Option, None, Some, Ok, ◌⊎◌, inl, inr, refl, ap, sym, ◌∙◌, subst, append_assoc, flat_map, arith}
+use Rattle.std.proofs.Common.{◌≡◌, ℕ, suc, max, ◌<◌, Bool, true, false, ◌&&◌, ◌||◌, List, [], ◌∷◌, ◌++◌, Option, None, Some, Ok, ◌⊎◌, inl, inr, refl, ap, sym, ◌∙◌, subst, append_assoc, flat_map, arith}
 use Rattle.std.proofs.lemmas.List.{append-nil}
 use Rattle.std.specs.List.{AllByRecursion}
 use Rattle.dart_base.specs.declared.place.Place.{Place}
 use Rattle.dart_token.specs.declared.token.Token.{Token}
 use Rattle.dart_token.specs.declared.sign.Sign.TheVariants as s
 use Rattle.dart_tree.specs.declared.operator.Operator.{Operator}
-use Rattle.dart_tree.specs.declared.operator.Operator.TheVariants as o
 use Rattle.dart_tree.specs.LeafTokens.{sign_at, operator_tokens}
 use Rattle.dart_tree.specs.Depth.{operand_height}
 use Rattle.dart_tree.specs.Types.{TypeNode}
 use Rattle.dart_tree.specs.Tree as t
 use Rattle.dart_tree.specs.Tree.{Operand, Tails}
 use Rattle.dart_tree.specs.Tokens.{operand_tokens, tails_tokens}
-use Rattle.grammar_laws.specs.Codes.{has, Apart, Within, nowhere, given, is_empty, after_followed_by, after_list_from}
+use Rattle.grammar_laws.specs.Codes.{has, Apart, Within, given, is_empty, after_followed_by, after_list_from}
 use Rattle.grammar_laws.specs.Readers.{Outcome, Reader, and_then, always, never, starts, when, continued_by}
 use Rattle.grammar_laws.specs.Fronts.{Front, Joint, JointBy, Several, SeveralFrom, Either, EitherFit, BothFit, GoesOn, ContinuedFitBy, SomeFit, EachFit, SomeFitFrom, EachFitFrom, GoOnFrom, state_after, Made, both_spelling, joined_spelling, option_spelling}
 use Rattle.grammar_laws.specs.Laws.{Laws}
-use Rattle.grammar_laws.proofs.Codes.{apart, apart_none, apart_smaller, apart_union, and_both, and_true, and_false, not_true, has_cases, clash, within_then, within_union, within_given, within_self, within_left, within_right}
+use Rattle.grammar_laws.proofs.Codes.{apart, apart_none, apart_smaller, apart_union, and_both, and_true, and_false, not_true, clash, within_then, within_union, within_given, within_self, within_left, within_right, or_right}
 use Rattle.grammar_laws.proofs.Cuts.{gave}
 use Rattle.grammar_laws.proofs.Depth.{below_is, is_below_by}
-use Rattle.grammar_laws.proofs.Restated.{made_laws, refit, refront}
+use Rattle.grammar_laws.proofs.Restated.{made_laws, refront}
 use Rattle.grammar_laws.proofs.Combined.{both_laws}
 use Rattle.grammar_laws.proofs.Continued.{continued_by_laws}
 use Rattle.grammar_laws.proofs.Stated.{some_from_laws}
 use Rattle.grammar_laws.specs.Depth.{is_below}
-use Rattle.dart_syntax.specs.Phrases.{Anything}
 use Rattle.dart_syntax.specs.Leaves as l
 use Rattle.dart_syntax.specs.Edges.{repeats, binds_between, leaves, opens_nothing, compares, operand_takes, tails_take}
 use Rattle.dart_syntax.specs.Edges as edge
 use Rattle.dart_syntax.specs.Expressions as g
 use Rattle.dart_syntax.specs.Levels.{level, sign_level}
 use Rattle.token_codes.specs.Codes.{class_of, sign_code, these}
-use Rattle.token_codes.specs.Leaves.{signed}
-use Rattle.token_codes.proofs.Leaves.{sign_reads}
 use Rattle.syntax_readers.specs.Combinators.{◌~◌, Open, with_half, halved}
 use Rattle.syntax_readers.specs.Primaries.{operand_first}
 use Rattle.syntax_readers.specs.Levels.{Item, has_room, item_leaves, to_tails, joined, whole, shift_codes, shift_operator, shift_tails, shift}
 use Rattle.laws_expr.specs.Nexts.{Taking, nexts, taken, operand_alone, tails_alone, after_operand}
-use Rattle.laws_expr.proofs.Open.{OpenLaws, Settled, open_spelling, half_tokens, after_open, bare, tree, no_some}
-use Rattle.laws_expr.proofs.Edges.{within_at, taken_moves, operand_moves, given_off}
-use Rattle.laws_expr.proofs.Chain.{half_of, half_operand, half_moves, given_more, looser, looser_half, not_false, left_apart, plain_spell, drop, tails_drop, empty_drop}
-use Rattle.laws_expr.proofs.Once.{last_takes}
+use Rattle.laws_expr.proofs.Open.{OpenLaws, Settled, open_spelling, half_tokens, after_open, bare, tree, no_some, tree_fits}
+use Rattle.laws_expr.proofs.Edges.{within_at, taken_moves, operand_moves}
+use Rattle.laws_expr.proofs.Chain.{half_of, half_operand, half_moves, looser, looser_half, left_apart, last_takes}
 use Rattle.laws_expr.proofs.Halved.{halved_laws, halved_settled}
 use Rattle.laws_expr.proofs.Refined.{reads_half, half_read, sharp, sharp_within, sharp_apart, refined_laws}
+use Rattle.laws_expr.proofs.Sets.{given_off, not_false, not_either, given_more}
+use Rattle.laws_expr.proofs.Tails.{plain_spell, drop, ending, keep, tails_drop, tails_keep, empty_drop, empty_keep, last_of, last_fits}
+use Rattle.laws_expr.proofs.Divided.{second_tokens, first_half, ShiftFits, shift_front, shift_operator_laws, shift_said, shift_out, shift_of, shift_level}
 
 abbrev shifts_at : ℕ
 shifts_at = 9
 
 abbrev operand_at : ℕ
 operand_at = 10
-
--- ---- the operator, of which half may have been read
-
-abbrev second_tokens : Operator → List Token
-second_tokens (o.ShiftRight first second) = sign_at second s.Greater ∷ []
-second_tokens x = operator_tokens x
-
-abbrev OperatorFits : Option Place → Operator → Type 0
-OperatorFits None = (l.one_of (s.ShiftLeft ∷ [])).Fits
-OperatorFits (Some first) = Made (o.ShiftRight first) Anything
-
-abbrev operator_front : Option Place → Front Token
-operator_front None = (l.one_of (s.ShiftLeft ∷ [])).front
-operator_front (Some first) = (l.sign s.Greater).front
-
-only_left : (x : Operator) → (l.one_of (s.ShiftLeft ∷ [])).Fits x → Made (λ place. o.Sign place s.ShiftLeft) Anything x
-only_left x (inl fits) = fits
-only_left x (inr none) = absurd none
-
-begun : (ts : List Token) → (l.one_of (s.ShiftLeft ∷ [])).front ts → (l.sign s.ShiftLeft).front ts
-begun ts (inl f) = f
-begun ts (inr e) = inl e
-
-operator_laws : (h : Option Place) → Laws class_of (shift_operator h) second_tokens (OperatorFits h) (operator_front h) (shift_codes h) nowhere false
-unfolding shift_operator signed
-operator_laws None = refront (refit (made_laws (sign_reads s.ShiftLeft) (λ place. o.Sign place s.ShiftLeft) second_tokens nowhere (λ place fits. refl) (λ place fits. within_self [])) (λ x fits. inl fits) only_left) (λ ts f. inl f) begun
-operator_laws (Some first) = made_laws (sign_reads s.Greater) (o.ShiftRight first) second_tokens nowhere (λ place fits. refl) (λ place fits. within_self [])
-
-operator_said : (h : Option Place) (x : Operator) → OperatorFits h x → option_spelling half_tokens h ++ second_tokens x ≡ operator_tokens x
-operator_said None x (inl (place, fits, is)) = subst (λ z. second_tokens z ≡ operator_tokens z) is refl
-operator_said None x (inr none) = absurd none
-operator_said (Some first) x (second, fits, is) = subst (λ z. half_tokens first ++ second_tokens z ≡ operator_tokens z) is refl
-
-operator_out : (h : Option Place) (x : Operator) → OperatorFits h x → g.shifting.Fits x
-operator_out None x fits = inl fits
-operator_out (Some first) x (second, fits, is) = inr ((first, second), (tt, tt), is)
-
--- the half that stands before the operator's own reader
-abbrev first_half : Operator → Option Place
-first_half (o.ShiftRight first second) = Some first
-first_half x = None
-
-operator_in : (x : Operator) → g.shifting.Fits x → OperatorFits (first_half x) x
-operator_in x (inl (inl (place, fits, is))) = subst (λ z. OperatorFits (first_half z) z) is (inl (place, fits, refl))
-operator_in x (inl (inr none)) = absurd none
-operator_in x (inr ((first, second), fits, is)) = subst (λ z. OperatorFits (first_half z) z) is (second, tt, refl)
-
-leveled : (x : Operator) → g.shifting.Fits x → level x ≡ shifts_at
-leveled x (inl (inl (place, fits, is))) = ap level (sym is)
-leveled x (inl (inr none)) = absurd none
-leveled x (inr (places, fits, is)) = ap level (sym is)
 
 -- ---- what goes on
 
@@ -142,19 +89,6 @@ abbrev before : List (Operator × Operand) → Option Place
 before [] = None
 before (x ∷ more) = first_half x.0
 
-abbrev keep : List (Operator × Operand) → List Item
-keep [] = []
-keep (x ∷ more) = (x.0, (x.1, before more)) ∷ keep more
-
-tails_keep : (all : List (Operator × Operand)) → to_tails (keep all) ≡ (g.to_tails all, None)
-tails_keep [] = refl
-tails_keep (x ∷ []) = refl
-tails_keep (x ∷ y ∷ more) = ap (λ (z : Open Tails). (t.tail x.0 x.1 z.0, z.1)) (tails_keep (y ∷ more))
-
-empty_keep : (all : List (Operator × Operand)) → is_empty (keep all) ≡ is_empty all
-empty_keep [] = refl
-empty_keep (x ∷ more) = refl
-
 -- ---- the row
 
 module _ (n : ℕ)
@@ -194,14 +128,6 @@ module _ (n : ℕ)
   low_in x None fits on = low_half.none_in x fits
   low_in x (Some g) fits on = inr (fits, on)
 
-  here_out : (x : Open Operand) → here_half.Fits x → F x.0
-  here_out (x, None) fits = here_half.none_out x fits
-  here_out (x, Some g) fits = here_half.some_out x g fits
-
-  low_out : (x : Open Operand) → low_half.Fits x → U x.0
-  low_out (x, None) fits = low_half.none_out x fits
-  low_out (x, Some g) fits = low_half.some_out x g fits
-
   -- ---- operators with their operands
 
   abbrev may_item : Option Place → Item → Bool
@@ -211,13 +137,13 @@ module _ (n : ℕ)
   step h x = x.1.1
 
   abbrev ItemFits : Option Place → Item → Type 0
-  ItemFits h = BothFit (OperatorFits h) low_half.Fits
+  ItemFits h = BothFit (ShiftFits h) low_half.Fits
 
   abbrev low_front : Front Token
   low_front = Joint operand_tokens U leaves_shift ufront (l.sign s.Greater).front
 
   abbrev item_front : Option Place → Front Token
-  item_front h = Joint second_tokens (OperatorFits h) always (operator_front h) low_front
+  item_front h = Joint second_tokens (ShiftFits h) always (shift_front h) low_front
 
   abbrev item_next : Item → List ℕ
   item_next x = after_low x.1
@@ -226,7 +152,7 @@ module _ (n : ℕ)
   item_reader h = shift_operator h ~ halved leaves_shift (whole lower)
 
   item_laws : (h : Option Place) → Laws class_of (item_reader h) item_spell (ItemFits h) (item_front h) (shift_codes h) item_next false
-  item_laws h = both_laws (operator_laws h) low_half.laws (λ x fits. apart_none ufirst)
+  item_laws h = both_laws (shift_operator_laws h) low_half.laws (λ x fits. apart_none ufirst)
 
   item_apart : (h : Option Place) (x : Item) → ItemFits h x → may_item h x ≡ true → Apart (item_next x) (shift_codes (step h x))
   item_apart h (operator, (x, None)) fits on = no_left x (leaves 9 x) on
@@ -279,36 +205,36 @@ module _ (n : ℕ)
 
   each_drop : (h : Option Place) (all : List Item) → EachFitFrom ItemFits may_item step h all → EachFit PlainFits leaves_item (drop all)
   each_drop h [] fits = tt
-  each_drop h (x ∷ more) fits = ((operator_out h x.0 fits.0.0, low_out x.1 fits.0.1), ap (λ b. leaves 9 x.1.0 || b) (empty_drop more) ∙ fits.1, each_drop x.1.1 more fits.2)
+  each_drop h (x ∷ more) fits = ((shift_out h x.0 fits.0.0, tree_fits low_half x.1 fits.0.1), ap (λ b. leaves 9 x.1.0 || b) (empty_drop more) ∙ fits.1, each_drop x.1.1 more fits.2)
 
   before_in : (x : Operand) (more : List (Operator × Operand)) → U x → (leaves 9 x || is_empty more) ≡ true → low_half.Fits (x, before more)
   before_in x [] fits on = low_half.none_in x fits
   before_in x (y ∷ more) fits on = low_in x (first_half y.0) fits (or_first (leaves 9 x) on)
 
-  each_keep : (all : List (Operator × Operand)) → EachFit PlainFits leaves_item all → EachFitFrom ItemFits may_item step (before all) (keep all)
+  each_keep : (all : List (Operator × Operand)) → EachFit PlainFits leaves_item all → EachFitFrom ItemFits may_item step (before all) (keep before all)
   each_keep [] fits = tt
-  each_keep (x ∷ more) fits = ((operator_in x.0 fits.0.0, before_in x.1 more fits.0.1 fits.1), ap (λ b. leaves 9 x.1 || b) (empty_keep more) ∙ fits.1, each_keep more fits.2)
+  each_keep (x ∷ more) fits = ((shift_of x.0 fits.0.0, before_in x.1 more fits.0.1 fits.1), ap (λ b. leaves 9 x.1 || b) (empty_keep before more) ∙ fits.1, each_keep more fits.2)
 
   node_of : (x : Open Operand) (all : List Item) → here_half.Fits x → may x ≡ true → SomeFitFrom ItemFits may_item step x.1 all → Node (t.binary x.0 (to_tails all).0)
   node_of x all fits on items =
       let w = and_both (has_room n x) (leaves 9 x.0) on in
-      ((x.0, drop all), ((down x.0 (here_out x fits) (below_is operand_height n x.0 w.0), w.1), (empty_drop all ∙ items.0, each_drop x.1 all items.1)), ap (t.binary x.0) (tails_drop all))
+      ((x.0, drop all), ((down x.0 (tree_fits here_half x fits) (below_is operand_height n x.0 w.0), w.1), (empty_drop all ∙ items.0, each_drop x.1 all items.1)), ap (t.binary x.0) (tails_drop all))
 
   none_in : (z : Operand) → EitherFit F Node z → Made joined PartsFit (z, None)
   none_in z (inl fits) = (((z, None), None), (here_half.none_in z fits, refl), refl)
   none_in z (inr ((x, all), ((d, on), (some, each)), e)) =
       let u = up x d in
       let go : may_half x ≡ true = and_true (is_below operand_height n x) (leaves 9 x) (is_below_by operand_height n x u.1) on in
-      (((x, before all), Some (keep all)), (here_in x (before all) u.0 go, (go, (empty_keep all ∙ some, each_keep all each))), ap (with_half (t.binary x)) (tails_keep all) ∙ ap bare e)
+      (((x, before all), Some (keep before all)), (here_in x (before all) u.0 go, (go, (empty_keep before all ∙ some, each_keep all each))), ap (with_half (t.binary x)) (tails_keep before all some) ∙ ap bare e)
 
   none_out : (z : Operand) → Made joined PartsFit (z, None) → EitherFit F Node z
-  none_out z (((x, None), None), fits, e) = inl (subst F (ap tree e) (here_out (x, None) fits.0))
+  none_out z (((x, None), None), fits, e) = inl (subst F (ap tree e) (tree_fits here_half (x, None) fits.0))
   none_out z (((x, Some g), None), fits, e) = no_some (x, Some g) (z, None) e refl refl
   none_out z ((x, Some all), fits, e) = inr (subst Node (ap tree e) (node_of x all fits.0 fits.1.0 fits.1.1))
 
   some_out : (z : Operand) (g : Place) → Made joined PartsFit (z, Some g) → EitherFit F Node z
   some_out z g (((x, None), None), fits, e) = no_some (z, Some g) (x, None) (sym e) refl refl
-  some_out z g (((x, Some other), None), fits, e) = inl (subst F (ap tree e) (here_out (x, Some other) fits.0))
+  some_out z g (((x, Some other), None), fits, e) = inl (subst F (ap tree e) (tree_fits here_half (x, Some other) fits.0))
   some_out z g ((x, Some all), fits, e) = inr (subst Node (ap tree e) (node_of x all fits.0 fits.1.0 fits.1.1))
 
   -- ---- the tokens
@@ -319,12 +245,12 @@ module _ (n : ℕ)
   items_said h ((x, (y, k)) ∷ []) some fits =
       let last : operator_tokens x ++ (operand_tokens y ++ (option_spelling half_tokens k ++ [])) ≡ (operator_tokens x ++ (operand_tokens y ++ [])) ++ option_spelling half_tokens k = simp (append_assoc, append-nil) in
       regroup (option_spelling half_tokens h) (second_tokens x) (operand_tokens y) (option_spelling half_tokens k) []
-      ∙ ap (λ (m : List Token). m ++ (operand_tokens y ++ (option_spelling half_tokens k ++ []))) (operator_said h x fits.0.0)
+      ∙ ap (λ (m : List Token). m ++ (operand_tokens y ++ (option_spelling half_tokens k ++ []))) (shift_said h x fits.0.0)
       ∙ last
   items_said h ((x, (y, k)) ∷ z ∷ more) some fits =
       let tails : Open Tails = to_tails (z ∷ more) in
       regroup (option_spelling half_tokens h) (second_tokens x) (operand_tokens y) (option_spelling half_tokens k) (flat_map item_spell (z ∷ more))
-      ∙ ap (λ (m : List Token). m ++ (operand_tokens y ++ (option_spelling half_tokens k ++ flat_map item_spell (z ∷ more)))) (operator_said h x fits.0.0)
+      ∙ ap (λ (m : List Token). m ++ (operand_tokens y ++ (option_spelling half_tokens k ++ flat_map item_spell (z ∷ more)))) (shift_said h x fits.0.0)
       ∙ ap (λ (m : List Token). operator_tokens x ++ (operand_tokens y ++ m)) (items_said k (z ∷ more) refl fits.2)
       ∙ sym (append_assoc (operator_tokens x) (operand_tokens y ++ tails_tokens tails.0) (option_spelling half_tokens tails.1) ∙ ap (λ (m : List Token). operator_tokens x ++ m) (append_assoc (operand_tokens y) (tails_tokens tails.0) (option_spelling half_tokens tails.1)))
 
@@ -344,10 +270,10 @@ module _ (n : ℕ)
   half_tails x = half_of (λ next opens. tails_take next opens 9 x) (tails_alone x)
 
   own_again : (h : Option Place) (x : Item) → ItemFits h x → tails_take 9 opens_nothing 9 (t.tail x.0 x.1.0 t.no_tails) ≡ true
-  own_again h x fits = again x.0 x.1.0 (leveled x.0 (operator_out h x.0 fits.0))
+  own_again h x fits = again x.0 x.1.0 (shift_level x.0 (shift_out h x.0 fits.0))
 
   last_on : (h : Option Place) (x : Item) → ItemFits h x → (next : ℕ) (opens : TypeNode → Bool) → operand_takes next opens 10 x.1.0 ≡ true → tails_take next opens 9 (t.tail x.0 x.1.0 t.no_tails) ≡ true
-  last_on h x fits = last_takes 9 x.0 x.1.0 (leveled x.0 (operator_out h x.0 fits.0))
+  last_on h x fits = last_takes 9 x.0 x.1.0 (shift_level x.0 (shift_out h x.0 fits.0))
 
   list_on : (h : Option Place) (all : List Item) → is_empty all ≡ false → EachFitFrom ItemFits may_item step h all → Within (after_list_from shift_codes may_item step item_next h all) (after_open after_tails half_tails (to_tails all))
   unfolding tails_take tails_alone
@@ -368,12 +294,12 @@ module _ (n : ℕ)
   unfolding operand_takes operand_alone
   parts_on ((x, None), None) fits =
       let takes : Taking = λ next opens. operand_takes next opens 9 x in
-      let on : takes 9 opens_nothing ≡ true = rises x (here_out (x, None) fits.0) in
+      let on : takes 9 opens_nothing ≡ true = rises x (tree_fits here_half (x, None) fits.0) in
       within_union (within_union (looser 10 9 x (omega arith)) (within_given (may_half x) (λ e. within_then (within_at 10 nexts (these s.Greater) takes refl on) (within_left (taken takes) (operand_alone x)))))
       (within_given (may (x, None)) (λ e. within_then (within_at 10 nexts (these s.ShiftLeft) takes refl on) (within_left (taken takes) (operand_alone x))))
   parts_on ((x, Some g), None) fits =
       let takes : Taking = λ next opens. operand_takes next opens 9 x in
-      within_union (looser_half 10 9 x (omega arith)) (shift_in takes (operand_alone x) (may (x, Some g)) (λ e. rises x (here_out (x, Some g) fits.0)))
+      within_union (looser_half 10 9 x (omega arith)) (shift_in takes (operand_alone x) (may (x, Some g)) (λ e. rises x (tree_fits here_half (x, Some g) fits.0)))
   parts_on ((x, h), Some all) fits = items_on (to_tails all) refl where
     items_on : (made : Open Tails) → made ≡ to_tails all → Within (after_list_from shift_codes may_item step item_next h all) (after_open (after_operand 9) (half_operand 9) (with_half (t.binary x) made))
     items_on (tails, None) e = subst (λ (z : Open Tails). Within (after_list_from shift_codes may_item step item_next h all) (after_open after_tails half_tails z)) (sym e) (list_on h all fits.1.1.0 fits.1.1.1)
@@ -394,25 +320,25 @@ module _ (n : ℕ)
   half_begins : (ts : List Token) → (l.sign s.Greater).front ts → Items ts
   half_begins ts f = alone_items ts (inl (inr (inl f)))
 
-  behind_half : (h : Option Place) (ts : List Token) → operator_front h ts → ItemFront (option_spelling half_tokens h ++ ts)
+  behind_half : (h : Option Place) (ts : List Token) → shift_front h ts → ItemFront (option_spelling half_tokens h ++ ts)
   behind_half None ts f = inl (inl f)
   behind_half (Some g) ts f = inl (inr (inr (g, ts, tt, refl, refl, f)))
 
   item_out : (h : Option Place) (ts : List Token) → item_front h ts → Items (option_spelling half_tokens h ++ ts)
   item_out h ts (inl f) = alone_items (option_spelling half_tokens h ++ ts) (behind_half h ts f)
   item_out h ts (inr (x, more, known, go, e, inl f)) =
-      alone_items (option_spelling half_tokens h ++ ts) (inr (x, more, operator_out h x known, refl, ap (λ (m : List Token). option_spelling half_tokens h ++ m) e ∙ sym (append_assoc (option_spelling half_tokens h) (second_tokens x) more) ∙ ap (λ (m : List Token). m ++ more) (operator_said h x known), f))
+      alone_items (option_spelling half_tokens h ++ ts) (inr (x, more, shift_out h x known, refl, ap (λ (m : List Token). option_spelling half_tokens h ++ m) e ∙ sym (append_assoc (option_spelling half_tokens h) (second_tokens x) more) ∙ ap (λ (m : List Token). m ++ more) (shift_said h x known), f))
   item_out h ts (inr (x, more, known, go, e, inr (y, rest, fits, on, e', f))) =
-      subst Items (sym (ap (λ (m : List Token). option_spelling half_tokens h ++ m) (e ∙ ap (λ (m : List Token). second_tokens x ++ m) e') ∙ sym (append_assoc (option_spelling half_tokens h) (second_tokens x) (operand_tokens y ++ rest)) ∙ ap (λ (m : List Token). m ++ (operand_tokens y ++ rest)) (operator_said h x known) ∙ sym (append_assoc (operator_tokens x) (operand_tokens y) rest)))
-      (one_more x y rest (operator_out h x known) fits on (half_begins rest f))
+      subst Items (sym (ap (λ (m : List Token). option_spelling half_tokens h ++ m) (e ∙ ap (λ (m : List Token). second_tokens x ++ m) e') ∙ sym (append_assoc (option_spelling half_tokens h) (second_tokens x) (operand_tokens y ++ rest)) ∙ ap (λ (m : List Token). m ++ (operand_tokens y ++ rest)) (shift_said h x known) ∙ sym (append_assoc (operator_tokens x) (operand_tokens y) rest)))
+      (one_more x y rest (shift_out h x known) fits on (half_begins rest f))
 
   items_out : (h : Option Place) (all : List Item) (rest : List Token) → GoOnFrom ItemFits may_item step h all → item_front (state_after step h all) rest → Items (option_spelling half_tokens h ++ (flat_map item_spell all ++ rest))
   items_out h [] rest go f = item_out h rest f
   items_out h ((x, (y, k)) ∷ more) rest go f =
       subst Items (sym (ap (λ (m : List Token). option_spelling half_tokens h ++ m) (append_assoc (second_tokens x ++ (operand_tokens y ++ option_spelling half_tokens k)) (flat_map item_spell more) rest)
-      ∙ regroup (option_spelling half_tokens h) (second_tokens x) (operand_tokens y) (option_spelling half_tokens k) (flat_map item_spell more ++ rest) ∙ ap (λ (m : List Token). m ++ (operand_tokens y ++ (option_spelling half_tokens k ++ (flat_map item_spell more ++ rest)))) (operator_said h x go.0.0)
+      ∙ regroup (option_spelling half_tokens h) (second_tokens x) (operand_tokens y) (option_spelling half_tokens k) (flat_map item_spell more ++ rest) ∙ ap (λ (m : List Token). m ++ (operand_tokens y ++ (option_spelling half_tokens k ++ (flat_map item_spell more ++ rest)))) (shift_said h x go.0.0)
       ∙ sym (append_assoc (operator_tokens x) (operand_tokens y) (option_spelling half_tokens k ++ (flat_map item_spell more ++ rest)))))
-      (one_more x y (option_spelling half_tokens k ++ (flat_map item_spell more ++ rest)) (operator_out h x go.0.0) (low_out (y, k) go.0.1) go.1 (items_out k more rest go.2 f))
+      (one_more x y (option_spelling half_tokens k ++ (flat_map item_spell more ++ rest)) (shift_out h x go.0.0) (tree_fits low_half (y, k) go.0.1) go.1 (items_out k more rest go.2 f))
 
   out : (ts : List Token) → PartsFront ts → Either front NodeFront ts
   out ts (inl (inl f)) = inl f
@@ -421,21 +347,21 @@ module _ (n : ℕ)
       inr (inr (x, more, down x fits (below_is operand_height n x w.0), w.1, e, half_begins more f))
   out ts (inr ((x, h), more, fits, on, e, (all, rest, go, e', f))) =
       let w = and_both (has_room n (x, h)) (leaves 9 x) on in
-      inr (inr (x, option_spelling half_tokens h ++ more, down x (here_out (x, h) fits) (below_is operand_height n x w.0), w.1, e ∙ append_assoc (operand_tokens x) (option_spelling half_tokens h) more, subst Items (ap (λ (m : List Token). option_spelling half_tokens h ++ m) (sym e')) (items_out h all rest go f)))
+      inr (inr (x, option_spelling half_tokens h ++ more, down x (tree_fits here_half (x, h) fits) (below_is operand_height n x w.0), w.1, e ∙ append_assoc (operand_tokens x) (option_spelling half_tokens h) more, subst Items (ap (λ (m : List Token). option_spelling half_tokens h ++ m) (sym e')) (items_out h all rest go f)))
 
   -- what stands behind an operand: the half of an operator alone, or a half or none and items behind it
   abbrev Ahead : List Token → Type 0
   Ahead ts = (l.sign s.Greater).front ts ⊎ ((h : Option Place) × (more : List Token) × (ts ≡ option_spelling half_tokens h ++ more) × SeveralFrom item_spell ItemFits may_item step item_front h more)
 
   first_said : (x : Operator) → g.shifting.Fits x → option_spelling half_tokens (first_half x) ++ second_tokens x ≡ operator_tokens x
-  first_said x known = operator_said (first_half x) x (operator_in x known)
+  first_said x known = shift_said (first_half x) x (shift_of x known)
 
   ahead_item : (ts : List Token) → ItemFront ts → Ahead ts
   ahead_item ts (inl (inl f)) = inr (None, ts, refl, ([], ts, tt, refl, inl f))
   ahead_item ts (inl (inr (inl f))) = inl f
   ahead_item ts (inl (inr (inr (g, more, at, go, e, f)))) = inr (Some g, more, e, ([], more, tt, refl, inl f))
   ahead_item ts (inr (x, more, known, go, e, f)) =
-      inr (first_half x, second_tokens x ++ more, e ∙ ap (λ (m : List Token). m ++ more) (sym (first_said x known)) ∙ append_assoc (option_spelling half_tokens (first_half x)) (second_tokens x) more, ([], second_tokens x ++ more, tt, refl, inr (x, more, operator_in x known, refl, refl, inl f)))
+      inr (first_half x, second_tokens x ++ more, e ∙ ap (λ (m : List Token). m ++ more) (sym (first_said x known)) ∙ append_assoc (option_spelling half_tokens (first_half x)) (second_tokens x) more, ([], second_tokens x ++ more, tt, refl, inr (x, more, shift_of x known, refl, refl, inl f)))
 
   ahead_first : (x : Operator) (y : Operand) (ts : List Token) → g.shifting.Fits x → U y → leaves 9 y ≡ true → Ahead ts → Ahead ((operator_tokens x ++ operand_tokens y) ++ ts)
   ahead_first x y ts known fits on (inl f) =
@@ -443,14 +369,14 @@ module _ (n : ℕ)
         first_half x,
         second_tokens x ++ (operand_tokens y ++ ts),
         append_assoc (operator_tokens x) (operand_tokens y) ts ∙ ap (λ (m : List Token). m ++ (operand_tokens y ++ ts)) (sym (first_said x known)) ∙ append_assoc (option_spelling half_tokens (first_half x)) (second_tokens x) (operand_tokens y ++ ts),
-        ([], second_tokens x ++ (operand_tokens y ++ ts), tt, refl, inr (x, operand_tokens y ++ ts, operator_in x known, refl, refl, inr (y, ts, fits, on, refl, f))),
+        ([], second_tokens x ++ (operand_tokens y ++ ts), tt, refl, inr (x, operand_tokens y ++ ts, shift_of x known, refl, refl, inr (y, ts, fits, on, refl, f))),
       )
   ahead_first x y ts known fits on (inr (h, more, e, (all, rest, go, e', f))) =
       inr (
         first_half x,
         second_tokens x ++ (operand_tokens y ++ (option_spelling half_tokens h ++ more)),
         append_assoc (operator_tokens x) (operand_tokens y) ts ∙ ap (λ (m : List Token). operator_tokens x ++ (operand_tokens y ++ m)) e ∙ ap (λ (m : List Token). m ++ (operand_tokens y ++ (option_spelling half_tokens h ++ more))) (sym (first_said x known)) ∙ append_assoc (option_spelling half_tokens (first_half x)) (second_tokens x) (operand_tokens y ++ (option_spelling half_tokens h ++ more)),
-        ((x, (y, h)) ∷ all, rest, ((operator_in x known, low_in y h fits on), on, go), ap (λ (m : List Token). second_tokens x ++ (operand_tokens y ++ (option_spelling half_tokens h ++ m))) e' ∙ simp append_assoc, f),
+        ((x, (y, h)) ∷ all, rest, ((shift_of x known, low_in y h fits on), on, go), ap (λ (m : List Token). second_tokens x ++ (operand_tokens y ++ (option_spelling half_tokens h ++ m))) e' ∙ simp append_assoc, f),
       )
 
   ahead : (all : List (Operator × Operand)) (rest : List Token) → AllByRecursion (GoesOn PlainFits leaves_item) all → ItemFront rest → Ahead (flat_map plain_spell all ++ rest)
@@ -492,37 +418,10 @@ module _ (n : ℕ)
         ∙ ap (λ (c : Bool). stopped x c (sign_at place s.Greater ∷ ts)) (and_false (may (x, None)) false refl))
   ]
 
-  -- with this half behind the last
-  abbrev keep_half : Option Place → List (Operator × Operand) → List Item
-  keep_half h [] = []
-  keep_half h (x ∷ more) = (x.0, (x.1, if is_empty more then h else before more)) ∷ keep_half h more
-
-  abbrev pub last_of : Operand → List (Operator × Operand) → Operand
-  last_of x [] = x
-  last_of x (y ∷ more) = last_of y.1 more
-
-  tails_half : (h : Option Place) (all : List (Operator × Operand)) → is_empty all ≡ false → to_tails (keep_half h all) ≡ (g.to_tails all, h)
-  tails_half h [] e = absurd cc
-  tails_half h (x ∷ []) e = refl
-  tails_half h (x ∷ y ∷ more) e = ap (λ (z : Open Tails). (t.tail x.0 x.1 z.0, z.1)) (tails_half h (y ∷ more) refl)
-
-  some_half : (h : Option Place) (all : List (Operator × Operand)) → is_empty all ≡ false → is_empty (keep_half h all) ≡ false
-  some_half h [] e = e
-  some_half h (x ∷ more) e = refl
-
-  or_last : (b : Bool) → (b || true) ≡ true
-  or_last true = refl
-  or_last false = refl
-
-  each_half : (h : Option Place) (x : Operand) (all : List (Operator × Operand)) → EachFit PlainFits leaves_item all → low_half.Fits (last_of x all, h) → EachFitFrom ItemFits may_item step (before all) (keep_half h all)
+  each_half : (h : Option Place) (x : Operand) (all : List (Operator × Operand)) → EachFit PlainFits leaves_item all → low_half.Fits (last_of x all, h) → EachFitFrom ItemFits may_item step (before all) (keep (ending h before) all)
   each_half h x [] fits last = tt
-  each_half h x (y ∷ []) fits last = ((operator_in y.0 fits.0.0, last), or_last (leaves 9 y.1), tt)
-  each_half h x (y ∷ z ∷ more) fits last = ((operator_in y.0 fits.0.0, low_in y.1 (first_half z.0) fits.0.1 (or_first (leaves 9 y.1) fits.1)), fits.1, each_half h y.1 (z ∷ more) fits.2 last)
-
-  last_fits : (x : Operand) (all : List (Operator × Operand)) → is_empty all ≡ false → EachFit PlainFits leaves_item all → U (last_of x all)
-  last_fits x [] e fits = absurd cc
-  last_fits x (y ∷ []) e fits = fits.0.1
-  last_fits x (y ∷ z ∷ more) e fits = last_fits y.1 (z ∷ more) refl fits.2
+  each_half h x (y ∷ []) fits last = ((shift_of y.0 fits.0.0, last), or_right (leaves 9 y.1) true refl, tt)
+  each_half h x (y ∷ z ∷ more) fits last = ((shift_of y.0 fits.0.0, low_in y.1 (first_half z.0) fits.0.1 (or_first (leaves 9 y.1) fits.1)), fits.1, each_half h y.1 (z ∷ more) fits.2 last)
 
   module _ (asks : Operand → Bool) (settled : (x : Operand) → U x → asks x ≡ true → Settled L x) where
     low_settled : (x : Operand) → U x → asks x ≡ true → Settled low_half x
@@ -532,7 +431,7 @@ module _ (n : ℕ)
     next_low = after_open (sharp low_half asks low_settled) (half_operand 10)
 
     sharp_item : (h : Option Place) → Laws class_of (item_reader h) item_spell (ItemFits h) (item_front h) (shift_codes h) (λ x. next_low x.1) false
-    sharp_item h = both_laws (operator_laws h) (refined_laws low_half asks low_settled) (λ x fits. apart_none ufirst)
+    sharp_item h = both_laws (shift_operator_laws h) (refined_laws low_half asks low_settled) (λ x fits. apart_none ufirst)
 
     sharp_off : (h : Option Place) (x : Item) → ItemFits h x → may_item h x ≡ true → Apart (next_low x.1) (shift_codes (step h x))
     sharp_off h (operator, (x, None)) fits on = apart_smaller (sharp_within low_half asks low_settled x) (no_left x (leaves 9 x) on)
@@ -545,14 +444,11 @@ module _ (n : ℕ)
     sharp_parts : Laws class_of parts_reader (joined_spelling (open_spelling operand_tokens) (flat_map item_spell)) PartsFit PartsFront first (after_followed_by after_here may (λ (x : Open Operand). shift_codes x.1) (λ (x : Open Operand). after_list_from shift_codes may_item step (λ y. next_low y.1) x.1)) false
     sharp_parts = continued_by_laws here_half.laws (λ x fits. sharp_tails x.1) never may (λ x e. absurd cc) here_apart
 
-    not_either : (xs ys : List ℕ) (m : ℕ) → has xs m ≡ false → has ys m ≡ false → has (xs ++ ys) m ≡ false
-    not_either xs ys m a b = not_true (has (xs ++ ys) m) (λ h. elim (has_cases xs ys m h) [ inl k ↦ clash (has xs m) k a | inr k ↦ clash (has ys m) k b ])
-
     given_left : (b : Bool) → has (given b (these s.ShiftLeft)) (sign_code s.Greater) ≡ false
     given_left true = refl
     given_left false = refl
 
-    stop : (h : Option Place) (x : Operand) (all : List (Operator × Operand)) → is_empty all ≡ false → asks (last_of x all) ≡ true → reads_half low_half (last_of x all) ≡ false → has (after_list_from shift_codes may_item step (λ (y : Item). next_low y.1) h (keep all)) (sign_code s.Greater) ≡ false
+    stop : (h : Option Place) (x : Operand) (all : List (Operator × Operand)) → is_empty all ≡ false → asks (last_of x all) ≡ true → reads_half low_half (last_of x all) ≡ false → has (after_list_from shift_codes may_item step (λ (y : Item). next_low y.1) h (keep before all)) (sign_code s.Greater) ≡ false
     stop h x [] e on none = absurd cc
     stop h x (y ∷ []) e on none =
         not_either (sharp low_half asks low_settled y.1) (given (leaves 9 y.1) (these s.ShiftLeft)) (sign_code s.Greater)
@@ -562,25 +458,25 @@ module _ (n : ℕ)
     may_go : (x : Operand) → D x → leaves 9 x ≡ true → may_half x ≡ true
     may_go x d on = and_true (is_below operand_height n x) (leaves 9 x) (is_below_by operand_height n x (up x d).1) on
 
-    half_parts : (x : Operand) (h : Option Place) (all : List (Operator × Operand)) → D x → leaves 9 x ≡ true → SomeFit PlainFits leaves_item all → low_half.Fits (last_of x all, h) → PartsFit ((x, before all), Some (keep_half h all))
-    half_parts x h all d on fits last = (here_in x (before all) (up x d).0 (may_go x d on), (may_go x d on, (some_half h all fits.0, each_half h x all fits.1 last)))
+    half_parts : (x : Operand) (h : Option Place) (all : List (Operator × Operand)) → D x → leaves 9 x ≡ true → SomeFit PlainFits leaves_item all → low_half.Fits (last_of x all, h) → PartsFit ((x, before all), Some (keep (ending h before) all))
+    half_parts x h all d on fits last = (here_in x (before all) (up x d).0 (may_go x d on), (may_go x d on, (empty_keep (ending h before) all ∙ fits.0, each_half h x all fits.1 last)))
 
-    plain_parts : (x : Operand) (all : List (Operator × Operand)) → D x → leaves 9 x ≡ true → SomeFit PlainFits leaves_item all → PartsFit ((x, before all), Some (keep all))
-    plain_parts x all d on fits = (here_in x (before all) (up x d).0 (may_go x d on), (may_go x d on, (empty_keep all ∙ fits.0, each_keep all fits.1)))
+    plain_parts : (x : Operand) (all : List (Operator × Operand)) → D x → leaves 9 x ≡ true → SomeFit PlainFits leaves_item all → PartsFit ((x, before all), Some (keep before all))
+    plain_parts x all d on fits = (here_in x (before all) (up x d).0 (may_go x d on), (may_go x d on, (empty_keep before all ∙ fits.0, each_keep all fits.1)))
 
     stays_read : (x : Operand) (all : List (Operator × Operand)) → D x → leaves 9 x ≡ true → SomeFit PlainFits leaves_item all → asks (last_of x all) ≡ true → reads_half low_half (last_of x all) ≡ false → (place : Place) (ts : List Token) →
         shift n here lower (open_spelling operand_tokens (t.binary x (g.to_tails all), None) ++ sign_at place s.Greater ∷ ts) ≡ Ok ((t.binary x (g.to_tails all), None), sign_at place s.Greater ∷ ts)
     unfolding shift class_of
     stays_read x all d on fits asked none place ts =
-        let known : PartsFit ((x, before all), Some (keep all)) = plain_parts x all d on fits in
-        let made : joined ((x, before all), Some (keep all)) ≡ (t.binary x (g.to_tails all), None) = ap (with_half (t.binary x)) (tails_keep all) in
-        ap (λ (m : List Token). shift n here lower (m ++ sign_at place s.Greater ∷ ts)) (ap (open_spelling operand_tokens) (sym made) ∙ parts_said ((x, before all), Some (keep all)) known)
-        ∙ ap (λ (r : Outcome Token (Open Operand × Option (List Item))). and_then r (λ y z. Ok (joined y, z))) (sharp_parts.complete ((x, before all), Some (keep all)) (sign_at place s.Greater ∷ ts) known (stop (before all) x all fits.0 asked none))
+        let known : PartsFit ((x, before all), Some (keep before all)) = plain_parts x all d on fits in
+        let made : joined ((x, before all), Some (keep before all)) ≡ (t.binary x (g.to_tails all), None) = ap (with_half (t.binary x)) (tails_keep before all fits.0) in
+        ap (λ (m : List Token). shift n here lower (m ++ sign_at place s.Greater ∷ ts)) (ap (open_spelling operand_tokens) (sym made) ∙ parts_said ((x, before all), Some (keep before all)) known)
+        ∙ ap (λ (r : Outcome Token (Open Operand × Option (List Item))). and_then r (λ y z. Ok (joined y, z))) (sharp_parts.complete ((x, before all), Some (keep before all)) (sign_at place s.Greater ∷ ts) known (stop (before all) x all fits.0 asked none))
         ∙ ap (λ (y : Open Operand). gave y (sign_at place s.Greater ∷ ts)) made
 
     pub node_settled : (x : Operand) (all : List (Operator × Operand)) → D x → leaves 9 x ≡ true → SomeFit PlainFits leaves_item all → asks (last_of x all) ≡ true → Settled shift_laws (t.binary x (g.to_tails all))
     unfolding shift_laws
     node_settled x all d on fits asked = by_half (reads_half low_half (last_of x all)) refl where
       by_half : (b : Bool) → reads_half low_half (last_of x all) ≡ b → Settled shift_laws (t.binary x (g.to_tails all))
-      by_half true e = inl (λ place. (((x, before all), Some (keep_half (Some place) all)), half_parts x (Some place) all d on fits (half_read low_half (last_of x all) (low_settled (last_of x all) (last_fits x all fits.0 fits.1) asked) e place), ap (with_half (t.binary x)) (tails_half (Some place) all fits.0)))
+      by_half true e = inl (λ place. (((x, before all), Some (keep (ending (Some place) before) all)), half_parts x (Some place) all d on fits (half_read low_half (last_of x all) (low_settled (last_of x all) (last_fits g.shifting.Fits U leaves_item x all fits.0 fits.1) asked) e place), ap (with_half (t.binary x)) (tails_keep (ending (Some place) before) all fits.0)))
       by_half false e = inr (λ place ts. stays_read x all d on fits asked e place ts)

@@ -5,7 +5,6 @@ use Rattle.dart_tree.specs.declared.identifier.Identifier.{Identifier}
 use Rattle.dart_tree.specs.declared.expression.Atom.TheVariants as a
 use Rattle.dart_tree.specs.LeafTokens.{type_tokens}
 use Rattle.dart_tree.specs.Tree as t
-use Rattle.dart_tree.specs.Tree.{Primary}
 use Rattle.grammar_laws.proofs.Restated.{nothing_laws}
 use Rattle.dart_syntax.specs.Expressions as g
 use Rattle.dart_syntax.specs.Statements as gs
@@ -35,9 +34,6 @@ pub known_at : (n : ℕ) → InsideReadAt n → ClosedRead (stage n).nodes.exprs
 known_at n known = record { type = type_at n; expr = known.expr; arguments = known.arguments; agrees = (within_agrees n).nodes.expr_nodes }
 
 -- ---- a name alone is an expression wherever there is room for one
-
-name_primary : (nodes : g.ExprNodes) (x : Identifier) → (g.primary_of nodes).Fits (t.atom (a.Name x))
-name_primary nodes x = inl (a.Name x, tt, refl)
 
 pub name_row : (n : ℕ) (x : Identifier) → (g.conditional (within n).levels).Fits (t.primary (t.atom (a.Name x)))
 unfolding gs.within gs.nodes_over

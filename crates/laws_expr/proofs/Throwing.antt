@@ -31,13 +31,15 @@ use Rattle.syntax_readers.specs.Primaries.{ExprReaders, operand_first, expr_firs
 use Rattle.syntax_readers.specs.Levels.{LevelReaders, assigns}
 use Rattle.syntax_readers.specs.Expressions.{Assigned, Behind, assigned, an_expr, assign_codes, assignment, opened, throw, without_over}
 use Rattle.laws_expr.specs.Nexts.{Taking, nexts, taken, assigning, stepping, expr_alone, operand_alone, after_expr, after_without, after_operand}
-use Rattle.laws_expr.proofs.Open.{OpenLaws, Settled, open_spelling, half_tokens, after_open, bare, tree, no_some, prefix_laws, open_by_first_laws}
+use Rattle.laws_expr.proofs.Open.{OpenLaws, Settled, open_spelling, half_tokens, after_open, bare, tree, no_some, prefix_laws, open_by_first_laws, tree_fits}
 use Rattle.laws_expr.proofs.Edges.{within_at, apart_all}
-use Rattle.laws_expr.proofs.Chain.{given_more, half_of, half_operand}
+use Rattle.laws_expr.proofs.Chain.{half_of, half_operand}
 use Rattle.laws_expr.proofs.Once.{half_without}
 use Rattle.laws_expr.proofs.Functions.{half_expr}
 use Rattle.laws_expr.proofs.Halved.{halved_laws}
-use Rattle.laws_expr.proofs.Assigning.{OperatorFits, second_tokens, one_of_said, parts, same_parts, parts_spell, PartsFit, Said, parts_laws}
+use Rattle.laws_expr.proofs.Assigning.{parts, same_parts, parts_spell, PartsFit, Said, parts_laws}
+use Rattle.laws_expr.proofs.Sets.{given_more, apart_when}
+use Rattle.laws_expr.proofs.Divided.{AssignFits, second_tokens, one_of_said, assign_out}
 
 -- ---- what goes on behind a target
 
@@ -56,17 +58,13 @@ target_takes (t.postfix x behind None) e = refl
 target_takes x e = absurd cc
 
 -- behind a target stand no other sign of an assignment and, behind its half, no rest of one
-given_none : (b : Bool) {ys : List ℕ} (xs : List ℕ) → Apart xs ys → Apart (given b xs) ys
-given_none true xs off = off
-given_none false {ys = ys} xs off = apart_none ys
-
 pub target_assign : (x : Operand) → assigns x ≡ true → Apart (after_operand question x ++ given (assigns x) (these s.Greater)) (sign_codes assignment_signs)
 target_assign x on = apart_union (apart_union (apart_all nexts (sign_codes assignment_signs) (λ next opens. operand_takes next opens question x) refl) (apart_smaller (target_alone x on) (apart refl))) (apart_smaller (within_given (assigns x) (λ e. within_self (these s.Greater))) (apart refl))
 
 pub target_equal : (x : Operand) → assigns x ≡ true → Apart (half_operand question x) (these s.GreaterEqual)
 target_equal x on =
     let takes : Taking = λ next opens. operand_takes next opens question x in
-    apart_union (given_none (takes (sign_level s.ShiftLeft) opens_nothing) (these s.Greater) (apart refl)) (apart_union (given_none (takes compares opens_nothing) operand_first (apart refl)) (off (has (operand_alone x) (sign_code s.Assign)) refl)) where
+    apart_union (apart_when (takes (sign_level s.ShiftLeft) opens_nothing) (λ e. apart refl)) (apart_union (apart_when (takes compares opens_nothing) (λ e. apart refl)) (off (has (operand_alone x) (sign_code s.Assign)) refl)) where
       off : (b : Bool) → has (operand_alone x) (sign_code s.Assign) ≡ b → Apart (given b (these s.GreaterEqual)) (these s.GreaterEqual)
       off false e = apart_none (these s.GreaterEqual)
       off true e = let bad : has stepping (sign_code s.Assign) ≡ true = (target_alone x on).in_second (sign_code s.Assign) e in absurd cc
@@ -90,10 +88,6 @@ assign_of : (x : Operand) (op : Operator) (e : Open Expr) → Within (after_open
 unfolding expr_takes expr_alone
 assign_of x op (e, None) = within_self (after_without e)
 assign_of x op (e, Some g) = within_self (half_without e)
-
-given_in : (b : Bool) (xs ys : List ℕ) → Within xs ys → Within (given b xs) (given b ys)
-given_in true xs ys k = k
-given_in false xs ys k = within_none []
 
 pub plain_on : (x : Operand) → Within ((after_operand question x ++ given (assigns x) (these s.Greater)) ++ given (assigns x) (sign_codes assignment_signs)) (after_without (t.plain x t.no_cascades))
 unfolding expr_takes expr_alone
@@ -183,23 +177,11 @@ module _ (inner : ExprReaders) (levels : LevelReaders) (nodes : g.ExprNodes)
   make (x, None) = with_half (λ operand. t.plain operand t.no_cascades) x
   make (x, Some (operator, value)) = with_half (t.assign x.0 operator) value
 
-  row_out : (x : Open Operand) → row_half.Fits x → R x.0
-  row_out (x, None) fits = row_half.none_out x fits
-  row_out (x, Some g) fits = row_half.some_out x g fits
-
-  value_out : (x : Open Expr) → W.Fits x → nodes.without.Fits x.0
-  value_out (x, None) fits = W.none_out x fits
-  value_out (x, Some g) fits = W.some_out x g fits
-
-  operator_out : (h : Option Place) (x : Operator) → OperatorFits h x → g.assigning.Fits x
-  operator_out None x fits = inl fits
-  operator_out (Some first) x (second, at, is) = inr ((first, second), (tt, tt), is)
-
   plain_of : (x : Open Operand) → row_half.Fits x → Of (t.plain x.0 t.no_cascades)
-  plain_of x fits = inr (x.0, row_out x fits, refl)
+  plain_of x fits = inr (x.0, tree_fits row_half x fits, refl)
 
-  value_of : (x : Open Operand) (operator : Operator) (e : Open Expr) → row_half.Fits x → assigns x.0 ≡ true → OperatorFits x.1 operator → W.Fits e → Of (t.assign x.0 operator e.0)
-  value_of x operator e fits on known value = inl ((x.0, (operator, e.0)), (to_target x.0 (row_out x fits) on, (operator_out x.1 operator known, value_out e value)), refl)
+  value_of : (x : Open Operand) (operator : Operator) (e : Open Expr) → row_half.Fits x → assigns x.0 ≡ true → AssignFits x.1 operator → W.Fits e → Of (t.assign x.0 operator e.0)
+  value_of x operator e fits on known value = inl ((x.0, (operator, e.0)), (to_target x.0 (tree_fits row_half x fits) on, (assign_out x.1 operator known, tree_fits W e value)), refl)
 
   none_in : (c : Expr) → Of c → Made make Part (c, None)
   none_in c (inr (x, fits, is)) = (((x, None), None), (row_half.none_in x fits, refl), ap bare is)
@@ -271,9 +253,6 @@ module _ (inner : ExprReaders) (levels : LevelReaders) (nodes : g.ExprNodes)
   same_tail : (c : Bool) (x : Open Operand) (mid : List Token) → raw_tail c x mid ≡ own_tail c x mid
   same_tail true x mid = same_wrapped x (assignment x.1 inner.without mid)
   same_tail false x mid = refl
-
-  abbrev raw : Reader Token (Open Operand × Option Assigned)
-  raw = continued_by class_of never always (λ (x : Open Operand). given (assigns x.0) (assign_codes x.1)) (halved assigns (levels.row (length rows))) (λ x. assignment x.1 inner.without)
 
   abbrev raw_behind : Reader Token (Open Operand × Option Behind)
   raw_behind = continued_by class_of never always (λ (x : Open Operand). given (assigns x.0) (assign_codes x.1)) (halved assigns (levels.row (length rows))) (λ x. mapped assigned (assignment x.1 inner.without))

@@ -44,9 +44,6 @@ prefix_takes o x next opens h = elim (tight next) [
   | inr m ↦ or_right (binds_between next opens 12 selects) (operand_takes next opens (max 12 selects) x) (operand_moves next opens x 12 13 (inr m) h)
 ]
 
-abbrev unary_place : ℕ
-unary_place = 12
-
 prefix_on : (o : Operator) (x : Operand) → Within (after_operand 12 x) (after_operand 12 (t.prefix o x))
 unfolding operand_alone
 prefix_on o x =
