@@ -1,19 +1,25 @@
 -- Small facts of translation.
-use Rattle.std.proofs.Common.{◌≡◌, refl, ℕ, List, [], ◌∷◌, Some, None, true, false}
+use Rattle.std.proofs.Common.{◌≡◌, refl, ℕ, List, [], ◌∷◌, ◌++◌, Some, None, true, false}
+use Rattle.std.specs.Prelude.{codes}
 use Rattle.core_program.specs.Core as c
+use Rattle.core_program.specs.Program as p
+use Rattle.core_program.specs.declared.program.FunctionKind.TheVariants.{Generative}
 use Rattle.core_program.specs.declared.form.Way.TheVariants as way
 use Rattle.dart_base.specs.declared.place.Place.{Place}
-use Rattle.dart_ir.specs.Ty.{class}
+use Rattle.dart_ir.specs.Ty.{class, dynamic, function, nil, cons, unnamed}
+use Rattle.dart_ir.specs.declared.kind.Shape.TheVariants as shape
+use Rattle.dart_ir.specs.declared.value.Value.TheVariants as v
 use Rattle.dart_ir.specs.declared.kind.SiteKind.TheVariants as kind
 use Rattle.dart_tree.specs.Tree as t
 use Rattle.dart_tree.specs.declared.expression.Atom.TheVariants as a
 use Rattle.dart_tree.specs.declared.statement.Jump.TheVariants as j
-use Rattle.translation.specs.Surroundings.{Ty, Core}
+use Rattle.translation.specs.Surroundings.{Text, Ty, Core}
 use Rattle.translation.specs.Types.{tys}
+use Rattle.translation.specs.Applications.{forwarder}
 use Rattle.translation.specs.Classes.{super_of}
 use Rattle.translation.specs.Expressions.{new_form}
 use Rattle.translation.specs.Productions.{expr, stmt}
-use Rattle.translation.specs.References.{truth, by_place}
+use Rattle.translation.specs.References.{truth, by_place, block, row, variable}
 use Rattle.translation.specs.Walk.{State, went, refused, bad_label, bad_word, on, leaving}
 
 pub break_needs_a_target : (st : State) (word semicolon : Place) →
@@ -55,3 +61,35 @@ pub object_is_handed_arguments : (st : State) (word : Place) (first second : Cor
     super_of word (Some 0) None (λ st. went (by_place (first ∷ second ∷ [])) st) st ≡ went (first ∷ second ∷ []) st
 unfolding on
 object_is_handed_arguments st word first second = refl
+
+pub forwarders_hand_on : (st : State) (x : p.Class Text) (site : p.Site Text) →
+    forwarder (record { class = 3; arguments = Some []; name = []; fields = []; count = 2 }) x [] (record {
+      number = 7;
+      id = codes "named";
+      parameters = record { var = 5; name = codes "a"; shape = shape.Required; default = v.Null; site = 0 } ∷ [];
+    }) (record st { tables = record st.tables { superclass = λ n. Some 1 }; declarations = 9; sites = site ∷ [] }) ≡
+    went (record {
+      number = 9;
+      id = codes "named";
+      parameters = record { var = 2; name = codes "a"; shape = shape.Required; default = v.Null; site = 1 } ∷ [];
+    }) (record st {
+      tables = record st.tables { superclass = λ n. Some 1 };
+      declarations = 10;
+      sites = site ∷ record { place = site.place; kind = kind.Param; required = None; annotated = false } ∷ [];
+      functions = st.functions ++ record {
+        number = 9;
+        made = record {
+          name = codes "named";
+          kind = Generative;
+          class = Some 3;
+          parameters = record { var = 2; name = codes "a"; shape = shape.Required; default = v.Null; site = 1 } ∷ [];
+          vars = 3;
+          cells = [];
+          captures = [];
+          signature = function dynamic (cons dynamic nil) nil unnamed;
+          body = c.given (block x.place (row x.place (c.super_new 7) (by_place (variable x.place 2 ∷ [])) ∷ []));
+        };
+      } ∷ [];
+    })
+unfolding on
+forwarders_hand_on st x site = refl

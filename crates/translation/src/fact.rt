@@ -1,18 +1,22 @@
 // Small facts of translation, each about one form.
-ghost use Rattle.std.specs.Prelude.{◌≡◌, ℕ, List, [], ◌∷◌, Some, None, true, false};
+ghost use Rattle.std.specs.Prelude.{◌≡◌, ℕ, List, [], ◌∷◌, ◌++◌, Some, None, true, false, codes};
 ghost use Rattle.core_program.specs.Core as c;
 ghost use Rattle.core_program.specs.Program as p;
 ghost use Rattle.core_program.specs.declared.form.Way.TheVariants as way;
+ghost use Rattle.core_program.specs.declared.program.FunctionKind.TheVariants.{Generative};
 ghost use Rattle.dart_base.specs.declared.place.Place.{Place};
-ghost use Rattle.dart_ir.specs.Ty.{class};
+ghost use Rattle.dart_ir.specs.Ty.{class, dynamic, function, nil, cons, unnamed};
+ghost use Rattle.dart_ir.specs.declared.kind.Shape.TheVariants as shape;
 ghost use Rattle.dart_ir.specs.declared.kind.SiteKind.TheVariants as kind;
+ghost use Rattle.dart_ir.specs.declared.value.Value.TheVariants as v;
 ghost use Rattle.dart_tree.specs.Tree as t;
 ghost use Rattle.dart_tree.specs.declared.expression.Atom.TheVariants as a;
 ghost use Rattle.dart_tree.specs.declared.statement.Jump.TheVariants as j;
+ghost use Rattle.translation.specs.Applications.{forwarder};
 ghost use Rattle.translation.specs.Classes.{super_of};
 ghost use Rattle.translation.specs.Expressions.{new_form};
 ghost use Rattle.translation.specs.Productions.{expr, stmt};
-ghost use Rattle.translation.specs.References.{truth, by_place};
+ghost use Rattle.translation.specs.References.{truth, by_place, block, row, variable};
 ghost use Rattle.translation.specs.Surroundings.{Text, Ty, Core};
 ghost use Rattle.translation.specs.Types.{tys};
 ghost use Rattle.translation.specs.Walk.{State, went, refused, bad_label, bad_word};
@@ -86,4 +90,71 @@ pub fn object_is_handed_arguments()
     ensures { (st : State) (word : Place) (first second : Core) →
         super_of word (Some 0) None (λ st. went (by_place (first ∷ second ∷ [])) st) st
         ≡ went (first ∷ second ∷ []) st }
+{}
+
+/// A forwarding constructor hands its parameter on, whose variable comes behind those of the fields' initial values, and
+/// whose site has no type.
+pub fn forwarders_hand_on()
+    ensures { (st : State) (x : p.Class Text) (site : p.Site Text) →
+        forwarder
+        (record { class = 3; arguments = Some []; name = []; fields = []; count = 2 }) x []
+        (record {
+          number = 7;
+          id = codes "named";
+          parameters = record {
+            var = 5;
+            name = codes "a";
+            shape = shape.Required;
+            default = v.Null;
+            site = 0;
+          } ∷ [];
+        })
+        (record st {
+          tables = record st.tables { superclass = λ n. Some 1 };
+          declarations = 9;
+          sites = site ∷ [];
+        })
+        ≡ went
+        (record {
+          number = 9;
+          id = codes "named";
+          parameters = record {
+            var = 2;
+            name = codes "a";
+            shape = shape.Required;
+            default = v.Null;
+            site = 1;
+          } ∷ [];
+        })
+        (record st {
+          tables = record st.tables { superclass = λ n. Some 1 };
+          declarations = 10;
+          sites = site ∷ record {
+            place = site.place;
+            kind = kind.Param;
+            required = None;
+            annotated = false;
+          } ∷ [];
+          functions = st.functions ++ record {
+            number = 9;
+            made = record {
+              name = codes "named";
+              kind = Generative;
+              class = Some 3;
+              parameters = record {
+                var = 2;
+                name = codes "a";
+                shape = shape.Required;
+                default = v.Null;
+                site = 1;
+              } ∷ [];
+              vars = 3;
+              cells = [];
+              captures = [];
+              signature = function dynamic (cons dynamic nil) nil unnamed;
+              body = c.given (block x.place
+                  (row x.place (c.super_new 7) (by_place (variable x.place 2 ∷ [])) ∷ []));
+            };
+          } ∷ [];
+        }) }
 {}
