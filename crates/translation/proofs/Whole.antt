@@ -2,7 +2,9 @@
 use Rattle.std.proofs.Common.{◌≡◌, refl, sym, ap, ◌∙◌, ℕ, List, [], ◌∷◌, ◌++◌, map, nat_eq, Option, None, Some, Bool, true, false, if◌then◌else◌}
 use Rattle.std.proofs.lemmas.Bool.{false≢true}
 use Rattle.std.proofs.lemmas.List.{map-append}
+use Rattle.std.specs.Prelude.{◌≢◌}
 use Rattle.std.specs.List.{range_with_len}
+use Rattle.std.specs.Option.{is_some}
 use Rattle.dart_base.specs.declared.place.Place.{Place}
 use Rattle.dart_tree.specs.Unit as u
 use Rattle.core_program.specs.Program as p
@@ -137,6 +139,10 @@ not_earlier place pg.not_built = refl
 accepted_named : (o : Option Place) (answer : pg.Answer) (made : p.Program Text) → pg.refused_at o answer ≡ pg.accepted made → o ≡ None
 accepted_named None answer made e = refl
 accepted_named (Some place) answer made e = absurd (false≢true (sym (not_earlier place answer) ∙ ap is_accepted e))
+
+pub named_refused : (x : pg.Given) (place : Place) (made : p.Program Text) → pg.named_as_class x.units ≡ Some place → pg.core x ≢ pg.accepted made
+named_refused x place made e a =
+    false≢true (ap is_some (sym (accepted_named (pg.named_as_class x.units) (pg.answer x (pg.walk x (pg.start x))) made a) ∙ e))
 
 pub erased_core : (x : pg.Given) (made : p.Program Text) → pg.core x ≡ pg.accepted made → pg.core (pg.bare x) ≡ pg.accepted (alike.program (stripped.program made))
 erased_core x made e = bare_core x (accepted_named (pg.named_as_class x.units) (pg.answer x (pg.walk x (pg.start x))) made e) ∙ ap pg.forgotten e

@@ -1,5 +1,6 @@
 // Laws of translation: what holds of every program.
-ghost use Rattle.std.specs.Prelude.{◌≡◌, None};
+ghost use Rattle.std.specs.Prelude.{◌≡◌, ◌≢◌, Some, None};
+ghost use Rattle.dart_base.specs.declared.place.Place.{Place};
 ghost use Rattle.core_program.specs.Alike as alike;
 ghost use Rattle.core_program.specs.Program.{Program};
 ghost use Rattle.core_program.specs.Stripped as stripped;
@@ -30,4 +31,9 @@ pub fn erased_core()
 pub fn core_of_erased()
     ensures { (x q : Given) → named_as_class x.units ≡ None
         → lines q ≡ lines (erased_given x) → forgotten (core q) ≡ forgotten (core x) }
+{}
+
+/// A program in which a member has a result type and its class's name has no core.
+pub fn named_members_are_refused()
+    ensures { (x : Given) (place : Place) (made : Program Text) → named_as_class x.units ≡ Some place → core x ≢ accepted made }
 {}
