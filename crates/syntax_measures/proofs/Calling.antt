@@ -13,11 +13,12 @@ use Rattle.dart_syntax.specs.Expressions.{ExprNodes, arguments_over}
 use Rattle.dart_syntax.specs.Statements.{StmtNodes, bracketed_over, parameters_over, nodes_over, within}
 use Rattle.dart_syntax.proofs.AgreeingExpressions.{said_sign}
 use Rattle.syntax_measures.specs.Relations.{ExprsRelate, StmtsRelate, WithinRelate}
-use Rattle.syntax_measures.proofs.Scanning.{State, inside, named, called, scan, scan_append, is_plain, sign_class}
+use Rattle.syntax_measures.proofs.Scanning.{State, inside, named, called, scan, scan_append}
 use Rattle.syntax_measures.proofs.WalkExpressions.{walk_argument_items}
 use Rattle.syntax_measures.proofs.WalkStatements.{walk_no_or_required, walk_required_before, walk_optional}
 use Rattle.syntax_measures.proofs.WalkStages.{still_at_same, walk_within}
 use Rattle.syntax_measures.proofs.Balances.{Balances, balances, balances_walk}
+use Rattle.syntax_measures.proofs.BracketKinds.{is_plain}
 
 -- what stands within a depth is balanced
 within_balances : (n : ℕ) → WithinRelate (balances n) (within n) (within n)
@@ -62,7 +63,7 @@ unfolding arguments_tokens
 arguments_over_call n I = made_calls arguments_tokens _ (left_calls (seq_ends (walk_argument_items balances_walk {m = n} I) right_ends)) (λ x fits. refl)
 
 module _ (n : ℕ) {inner : StmtNodes} (I : StmtsRelate (balances n) inner inner) where
-  bracketed_call : (kind : BracketKind) (before : Sign) → is_plain (sign_class before) ≡ true → Calls parameters_tokens (bracketed_over inner kind before)
+  bracketed_call : (kind : BracketKind) (before : Sign) → is_plain before ≡ true → Calls parameters_tokens (bracketed_over inner kind before)
   unfolding parameters_tokens
   bracketed_call kind before plain = made_calls parameters_tokens _ (left_calls (seq_ends (walk_required_before balances_walk {m = n} I) (seq_ends (walk_optional balances_walk {m = n} I kind before plain) right_ends))) (λ x fits. simp (said_sign, append_assoc))
 

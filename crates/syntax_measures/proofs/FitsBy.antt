@@ -47,9 +47,9 @@ made_by {m = m} height_of tree P rated b (a, fits, is) low = (a, P.fits a fits (
 abbrev pub Any : ℕ → ℕ → Type 0
 Any n m = Unit {0}
 
-pub fits_by_walk : Walk fits_by fits_by Any
+pub fits_by_walk : Walk fits_by (λ b. fits_by) Any
 fits_by_walk = record {
-  same = λ p rated balanced. record { fits = λ a fits low. fits };
+  same = λ p rated single. record { fits = λ a fits low. fits };
   empty = λ said none. record { fits = λ a fits low. absurd fits };
   both = λ P Q. record { fits = λ x fits low. (P.fits x.0 fits.0 (omega arith), Q.fits x.1 fits.1 (omega arith)) };
   both_if = λ may P Q. record { fits = λ x fits low. ((P.fits x.0 fits.0.0 (omega arith), fits.0.1), Q.fits x.1 fits.1 (omega arith)) };
@@ -66,10 +66,10 @@ fits_by_walk = record {
   good_tokens = λ test same P. record { fits = λ a fits low. (P.fits a fits.0 low, ap test (sym (same a)) ∙ fits.1) };
   node = λ P. record { fits = λ a fits low. P.fits a fits (omega arith) };
   rated = λ e P. record { fits = λ a fits low. P.fits a fits (same_by (sym (e a)) low) };
-  right = record { fits = λ a fits low. fits };
-  right_then = λ Q. record { fits = λ x fits low. (fits.0, Q.fits x.1 fits.1 low) };
+  right = λ b. record { fits = λ a fits low. fits };
+  right_then = λ b Q. record { fits = λ x fits low. (fits.0, Q.fits x.1 fits.1 low) };
   closing = λ P Q. record { fits = λ x fits low. (P.fits x.0 fits.0 (omega arith), Q.fits x.1 fits.1 (omega arith)) };
-  left = λ Q. record { fits = λ x fits low. (fits.0, Q.fits x.1 fits.1 low) };
+  left = λ b Q. record { fits = λ x fits low. (fits.0, Q.fits x.1 fits.1 low) };
   closing_rated = λ e P. record { fits = λ a fits low. P.fits a fits (same_by (sym (e a)) low) };
   under = λ e. tt;
   wide = λ Others other e P. record { fits = λ a fits low. inl (P.fits a fits low) };

@@ -4,11 +4,11 @@ use Rattle.std.specs.List.{AllByRecursion}
 use Rattle.grammar_laws.specs.Fronts.{Front, JointBy, Several, GoesOn, EachFit, Alone}
 use Rattle.grammar_laws.specs.Readers.{always}
 use Rattle.dart_token.specs.declared.token.Token.{Token}
-use Rattle.dart_token.specs.declared.sign.Sign.TheVariants as signs
 use Rattle.dart_syntax.specs.Phrases.{Phrase, seq, seq_if, seq_by, opt, either, rather, perhaps}
 use Rattle.dart_syntax.specs.Leaves.{sign}
 use Rattle.syntax_measures.specs.Fronts.{Grows, grows}
 use Rattle.syntax_measures.proofs.Walk.{Walk}
+use Rattle.syntax_measures.proofs.BracketKinds.{left_sign, right_sign}
 
 module _ {A : Type 0} {p q : Phrase A} (P : Grows p q) where
   -- a whole first part of the one is a whole first part of the other, with the same tokens
@@ -97,9 +97,9 @@ self_grows p = record { same = λ a. refl; fits = λ a fits. fits; begins = λ t
 abbrev pub Larger : ℕ → ℕ → Type 0
 Larger n m = n ≤ m
 
-pub grows_walk : Walk (λ m. grows) (λ m. grows) Larger
+pub grows_walk : Walk (λ m. grows) (λ b m. grows) Larger
 grows_walk = record {
-  same = λ p rated balanced. self_grows p;
+  same = λ p rated single. self_grows p;
   empty = λ {q = q} said none. record { same = said; fits = λ a fits. absurd fits; begins = λ ts h. subst q.front (sym h) none };
   both = λ P Q. both_grow P Q;
   both_if = λ may P Q. both_if_grow P Q may;
@@ -116,10 +116,10 @@ grows_walk = record {
   good_tokens = λ test same P. record { same = P.same; fits = λ a fits. (P.fits a fits.0, ap test (sym (P.same a)) ∙ fits.1); begins = λ ts h. (P.begins ts h.0, h.1) };
   node = λ P. P;
   rated = λ e P. P;
-  right = self_grows (sign signs.RightParenthesis);
-  right_then = λ Q. both_grow (self_grows (sign signs.RightParenthesis)) Q;
+  right = λ b. self_grows (sign (right_sign b));
+  right_then = λ b Q. both_grow (self_grows (sign (right_sign b))) Q;
   closing = λ P Q. both_grow P Q;
-  left = λ Q. both_grow (self_grows (sign signs.LeftParenthesis)) Q;
+  left = λ b Q. both_grow (self_grows (sign (left_sign b))) Q;
   closing_rated = λ e P. P;
   under = λ e. omega arith;
   wide = λ Others other e P. record { same = P.same; fits = λ a fits. inl (P.fits a fits); begins = λ ts h. inl (P.begins ts h) };

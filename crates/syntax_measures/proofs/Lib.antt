@@ -1,3 +1,4 @@
+pub mod BracketKinds
 pub mod Scanning
 pub mod Walk
 pub mod Walking

@@ -50,9 +50,9 @@ made_low {n = n} height_of tree P rated b (a, fits, is) = subst (λ c. height_of
 none_low : {A : Type 0} (f : A → ℕ) (n : ℕ) (xs : List A) → xs ≡ [] → highest f xs ≤ n
 none_low f n xs is = from_zero (ap (highest f) is)
 
-pub no_deeper_walk : Walk no_deeper no_deeper (λ n m. n ≡ m)
+pub no_deeper_walk : Walk no_deeper (λ b. no_deeper) (λ n m. n ≡ m)
 no_deeper_walk = record {
-  same = λ p rated balanced. record { at_most = λ a fits. from_zero (rated a fits) };
+  same = λ p rated single. record { at_most = λ a fits. from_zero (rated a fits) };
   empty = λ said none. record { at_most = λ a fits. absurd fits };
   both = λ P Q. record { at_most = λ x fits. both_low (P.at_most x.0 fits.0) (Q.at_most x.1 fits.1) };
   both_if = λ may P Q. record { at_most = λ x fits. both_low (P.at_most x.0 fits.0.0) (Q.at_most x.1 fits.1) };
@@ -69,10 +69,10 @@ no_deeper_walk = record {
   good_tokens = λ test same P. record { at_most = λ a fits. P.at_most a fits.0 };
   node = λ P. record { at_most = λ a fits. let low = P.at_most a fits in omega arith };
   rated = λ e P. record { at_most = λ a fits. same_low (sym (e a)) (P.at_most a fits) };
-  right = record { at_most = λ a fits. least _ };
-  right_then = λ Q. record { at_most = λ x fits. Q.at_most x.1 fits.1 };
+  right = λ b. record { at_most = λ a fits. least _ };
+  right_then = λ b Q. record { at_most = λ x fits. Q.at_most x.1 fits.1 };
   closing = λ P Q. record { at_most = λ x fits. both_low (P.at_most x.0 fits.0) (Q.at_most x.1 fits.1) };
-  left = λ Q. record { at_most = λ x fits. Q.at_most x.1 fits.1 };
+  left = λ b Q. record { at_most = λ x fits. Q.at_most x.1 fits.1 };
   closing_rated = λ e P. record { at_most = λ a fits. same_low (sym (e a)) (P.at_most a fits) };
   under = λ e. omega arith;
   wide = λ Others other e P. record { at_most = P.at_most };

@@ -164,12 +164,12 @@ pub balanced_append : (xs ys : List Token) → Balanced xs → Balanced ys → B
 balanced_append xs ys X Y k = scan_append (inside k) xs ys ∙ ap (λ (z : State). scan z ys) (X k) ∙ Y k
 
 -- no parenthesis
-abbrev pub is_plain : Class → Bool
-is_plain left = false
-is_plain right = false
-is_plain x = true
+abbrev pub no_parenthesis : Class → Bool
+no_parenthesis left = false
+no_parenthesis right = false
+no_parenthesis x = true
 
-pub plain_stays : (k : ℕ) (c : Class) → is_plain c ≡ true → step (inside k) c ≡ inside k
+pub plain_stays : (k : ℕ) (c : Class) → no_parenthesis c ≡ true → step (inside k) c ≡ inside k
 plain_stays k name plain = refl
 plain_stays k declaring plain = refl
 plain_stays k constant plain = refl
@@ -183,7 +183,7 @@ plain_stays k arrow plain = refl
 plain_stays k brace plain = refl
 plain_stays k other plain = refl
 
-pub plain_word : (x : Word) → is_plain (word_class x) ≡ true
+pub plain_word : (x : Word) → no_parenthesis (word_class x) ≡ true
 plain_word w.Get = refl
 plain_word w.Set = refl
 plain_word w.Var = refl

@@ -3,12 +3,11 @@ use Rattle.std.proofs.Common.{◌≡◌, ℕ, zero, suc, max, ◌≤◌, Bool, L
 use Rattle.grammar_laws.specs.Fronts.{Front, Either, EitherFit, Alone, both_spelling, option_spelling}
 use Rattle.dart_base.specs.declared.place.Place.{Place}
 use Rattle.dart_token.specs.declared.token.Token.{Token}
-use Rattle.dart_token.specs.declared.sign.Sign.TheVariants as signs
 use Rattle.dart_tree.specs.Depth.{height_if, highest}
 use Rattle.dart_syntax.specs.Phrases.{Phrase, exactly, no_room, seq, seq_if, seq_by, opt, many, some_if, either, rather, perhaps, made, such, such_tokens}
 use Rattle.dart_syntax.specs.Leaves.{sign, sign_tokens}
 use Rattle.syntax_measures.specs.Relations.{Relation}
-use Rattle.syntax_measures.proofs.Scanning.{Balanced}
+use Rattle.syntax_measures.proofs.BracketKinds.{Bracket, left_sign, right_sign, Single}
 
 -- no node
 abbrev pub flat : {A : Type 0} → A → ℕ
@@ -21,11 +20,11 @@ higher f g x = max (f x.0) (g x.1)
 abbrev pub widened : {A : Type 0} → Phrase A → (A → Type 0) → Front Token → Phrase A
 widened p Others other = record { spelling = p.spelling; Fits = EitherFit p.Fits Others; front = Either p.front other }
 
--- R is the relation where the second phrase has room for so many nodes, and C the same of what ends with the `)` for a `(`
--- before it; Pair tells which depths the two phrases have
-pub record Walk (R C : ℕ → Relation) (Pair : ℕ → ℕ → Type 0) : Type 1 where
+-- R is the relation where the second phrase has room for so many nodes, and C the same of what ends with the bracket that closes
+-- one before it; Pair tells which depths the two phrases have
+pub record Walk (R : ℕ → Relation) (C : Bracket → ℕ → Relation) (Pair : ℕ → ℕ → Type 0) : Type 1 where
   -- what does not depend on the depth
-  pub same : {m : ℕ} {A : Type 0} {f : A → ℕ} {t : A → List Token} (p : Phrase A) → ((a : A) → p.Fits a → f a ≡ 0) → ((a : A) → p.Fits a → Balanced (t a)) → R m A f t p p
+  pub same : {m : ℕ} {A : Type 0} {f : A → ℕ} {t : A → List Token} (p : Phrase A) → ((a : A) → p.Fits a → f a ≡ 0) → Single t p → R m A f t p p
   -- what has no room
   pub empty : {m : ℕ} {A : Type 0} {f : A → ℕ} {t : A → List Token} {q : Phrase A} → ((a : A) → t a ≡ q.spelling a) → q.front [] → R m A f t (no_room t) q
   -- one after the other
@@ -48,12 +47,12 @@ pub record Walk (R C : ℕ → Relation) (Pair : ℕ → ℕ → Type 0) : Type 
   pub node : {m : ℕ} {A : Type 0} {f : A → ℕ} {t : A → List Token} {p q : Phrase A} → R m A f t p q → R (suc m) A (λ a. suc (f a)) t p q
   -- of the same heights
   pub rated : {m : ℕ} {A : Type 0} {f g : A → ℕ} {t : A → List Token} {p q : Phrase A} → ((a : A) → f a ≡ g a) → R m A f t p q → R m A g t p q
-  -- parentheses
-  pub right : {m : ℕ} → C m Place flat (sign_tokens signs.RightParenthesis) (sign signs.RightParenthesis) (sign signs.RightParenthesis)
-  pub right_then : {m : ℕ} {B : Type 0} {g : B → ℕ} {u : B → List Token} {r s : Phrase B} → R m B g u r s → C m (Place × B) (λ x. g x.1) (both_spelling (sign_tokens signs.RightParenthesis) u) (seq (sign signs.RightParenthesis) r) (seq (sign signs.RightParenthesis) s)
-  pub closing : {m : ℕ} {A B : Type 0} {f : A → ℕ} {g : B → ℕ} {t : A → List Token} {u : B → List Token} {p q : Phrase A} {r s : Phrase B} → R m A f t p q → C m B g u r s → C m (A × B) (higher f g) (both_spelling t u) (seq p r) (seq q s)
-  pub left : {m : ℕ} {B : Type 0} {g : B → ℕ} {u : B → List Token} {r s : Phrase B} → C m B g u r s → R m (Place × B) (λ x. g x.1) (both_spelling (sign_tokens signs.LeftParenthesis) u) (seq (sign signs.LeftParenthesis) r) (seq (sign signs.LeftParenthesis) s)
-  pub closing_rated : {m : ℕ} {A : Type 0} {f g : A → ℕ} {t : A → List Token} {p q : Phrase A} → ((a : A) → f a ≡ g a) → C m A f t p q → C m A g t p q
+  -- brackets
+  pub right : {m : ℕ} (b : Bracket) → C b m Place flat (sign_tokens (right_sign b)) (sign (right_sign b)) (sign (right_sign b))
+  pub right_then : {m : ℕ} (b : Bracket) {B : Type 0} {g : B → ℕ} {u : B → List Token} {r s : Phrase B} → R m B g u r s → C b m (Place × B) (λ x. g x.1) (both_spelling (sign_tokens (right_sign b)) u) (seq (sign (right_sign b)) r) (seq (sign (right_sign b)) s)
+  pub closing : {m : ℕ} {b : Bracket} {A B : Type 0} {f : A → ℕ} {g : B → ℕ} {t : A → List Token} {u : B → List Token} {p q : Phrase A} {r s : Phrase B} → R m A f t p q → C b m B g u r s → C b m (A × B) (higher f g) (both_spelling t u) (seq p r) (seq q s)
+  pub left : {m : ℕ} (b : Bracket) {B : Type 0} {g : B → ℕ} {u : B → List Token} {r s : Phrase B} → C b m B g u r s → R m (Place × B) (λ x. g x.1) (both_spelling (sign_tokens (left_sign b)) u) (seq (sign (left_sign b)) r) (seq (sign (left_sign b)) s)
+  pub closing_rated : {m : ℕ} {b : Bracket} {A : Type 0} {f g : A → ℕ} {t : A → List Token} {p q : Phrase A} → ((a : A) → f a ≡ g a) → C b m A f t p q → C b m A g t p q
   -- where one of the two has no room
   pub under : {n m : ℕ} → Pair (suc n) (suc m) → Pair n m
   pub wide : {m k : ℕ} {A : Type 0} {f : A → ℕ} {t : A → List Token} {p q : Phrase A} (Others : A → Type 0) (other : Front Token) → Pair zero (suc m) → R k A f t p q → R k A f t p (widened q Others other)

@@ -1,5 +1,5 @@
 -- The walk over classes, their members and the other declarations.
-use Rattle.std.proofs.Common.{◌≡◌, ℕ, zero, suc, max, ◌≤◌, arith, true, List, [], ◌∷◌, Option, None, refl, ap, subst, inl, append_assoc}
+use Rattle.std.proofs.Common.{◌≡◌, ℕ, zero, suc, max, ◌≤◌, arith, true, List, [], ◌∷◌, Option, None, refl, ap, subst, inl, append_assoc, ◌⊎◌, inr}
 use Rattle.grammar_laws.specs.Fronts.{Alone, option_spelling}
 use Rattle.dart_base.specs.declared.place.Place.{Place}
 use Rattle.dart_token.specs.declared.token.Token.{Token}
@@ -7,6 +7,7 @@ use Rattle.dart_token.specs.declared.sign.Sign.{Sign}
 use Rattle.dart_token.specs.declared.sign.Sign.TheVariants as s
 use Rattle.dart_token.specs.declared.word.Word.TheVariants as w
 use Rattle.dart_tree.specs.declared.identifier.Identifier.{Identifier}
+use Rattle.dart_tree.specs.declared.identifier.Identifier.TheVariants as i
 use Rattle.dart_tree.specs.declared.declaration.Modifier.{Modifier}
 use Rattle.dart_tree.specs.declared.declaration.Modifier.TheVariants as modifier
 use Rattle.dart_tree.specs.declared.declaration.OperatorName.{OperatorName}
@@ -31,9 +32,10 @@ use Rattle.dart_syntax.proofs.AgreeingStatements.{said_word}
 use Rattle.dart_syntax.proofs.AgreeingDeclarations.{said_parameters, said_inits, constructors_agree, classes_agree, enums_agree, declarations_agree}
 use Rattle.syntax_measures.specs.Relations.{Relation, StmtsRelate, WithinRelate, DeclarationsRelate, enum_height}
 use Rattle.syntax_measures.specs.Readings.{bare_member_tokens}
-use Rattle.syntax_measures.proofs.Scanning.{is_plain, sign_class, both_true}
+use Rattle.syntax_measures.proofs.Scanning.{both_true}
+use Rattle.syntax_measures.proofs.BracketKinds.{Bracket, squares, braces, is_plain, Single}
 use Rattle.syntax_measures.proofs.Walk.{Walk, flat}
-use Rattle.syntax_measures.proofs.Walking.{one_name_balanced, emptied, the_sign, the_word, the_name, the_empty, an_identifier, a_dot_name, after, before, maybe_flat, all_flat, with_commas}
+use Rattle.syntax_measures.proofs.Walking.{emptied, the_sign, the_word, the_name, the_empty, an_identifier, a_dot_name, after, before, maybe_flat, all_flat, with_commas, one_name_plain, enclosed, closing_after}
 use Rattle.syntax_measures.proofs.WalkTypes.{walk_types, walk_result}
 use Rattle.syntax_measures.proofs.WalkExpressions.{high_cascades, all_plain}
 use Rattle.syntax_measures.proofs.WalkLevels.{walk_cascaded}
@@ -62,12 +64,19 @@ constructor_high (d.redirecting_factory external word name given equals target o
 
 -- ---- parts of declarations
 
+identifier_begun : (ts : List Token) → plain_identifier.front ts → (ts ≡ []) ⊎ ((x : Identifier) × plain_identifier.Fits x × (ts ≡ identifier_tokens x))
+identifier_begun ts (inl e) = inl e
+identifier_begun ts (inr (x, e)) = inr (i.Name x.0 x.1, (x, tt, refl), e)
+
+single_identifier : Single identifier_tokens plain_identifier
+single_identifier = record { spells = λ x. refl; plain = λ x fits. one_name_plain x; begun = identifier_begun }
+
 abbrev external_tokens : Option Place → List Token
 external_tokens = option_spelling (word_tokens w.External)
 
-module _ {R C : ℕ → Relation} {Pair : ℕ → ℕ → Type 0} (W : Walk R C Pair) {m : ℕ} where
+module _ {R : ℕ → Relation} {C : Bracket → ℕ → Relation} {Pair : ℕ → ℕ → Type 0} (W : Walk R C Pair) {m : ℕ} where
   pub a_plain_identifier : R m Identifier flat identifier_tokens plain_identifier plain_identifier
-  a_plain_identifier = W.same plain_identifier (λ x fits. refl) (λ x fits. one_name_balanced x)
+  a_plain_identifier = W.same plain_identifier (λ x fits. refl) single_identifier
 
   a_declared_name : (p q : StmtNodes) (class : List ℕ) → R m ConstructorName flat constructor_name_tokens (constructor_name_over p class) (constructor_name_over q class)
   a_declared_name p q class = W.make constructor_name_tokens flat _ (after W (W.make identifier_tokens flat _ (the_name W class) (λ x. refl) (λ x. refl)) (maybe_flat W (a_dot_name W))) (λ x. refl) (λ x. refl)
@@ -82,14 +91,14 @@ module _ {R C : ℕ → Relation} {Pair : ℕ → ℕ → Type 0} (W : Walk R C 
     some_signs : (xs : List Sign) → all_plain xs ≡ true → R m OperatorName flat operator_name_tokens (signs_of p xs) (signs_of q xs)
     some_signs [] plain = W.empty (λ a. refl) refl
     some_signs (x ∷ xs) plain =
-        let both : (is_plain (sign_class x) ≡ true) × (all_plain xs ≡ true) = both_true (is_plain (sign_class x)) (all_plain xs) plain in
+        let both : (is_plain x ≡ true) × (all_plain xs ≡ true) = both_true (is_plain x) (all_plain xs) plain in
         W.one (W.make operator_name_tokens flat (λ place. o.Sign place x) (the_sign W x both.0) (λ place. refl) (λ place. refl)) (some_signs xs both.1)
 
     an_operator_name : R m OperatorName flat operator_name_tokens (operator_name_over p) (operator_name_over q)
     an_operator_name = W.one (some_signs operator_signs refl)
         (W.one (W.make operator_name_tokens flat _ (after W (the_sign W s.Greater refl) (the_sign W s.Greater refl)) (λ x. refl) (λ x. refl))
-        (W.one (W.make operator_name_tokens flat _ (after W (the_sign W s.LeftBracket refl) (the_sign W s.RightBracket refl)) (λ x. refl) (λ x. refl))
-        (W.make operator_name_tokens flat _ (after W (the_sign W s.LeftBracket refl) (after W (the_sign W s.RightBracket refl) (the_sign W s.Assign refl))) (λ x. refl) (λ x. refl))))
+        (W.one (W.make operator_name_tokens flat _ (W.left squares (W.right squares)) (λ x. refl) (λ x. refl))
+        (W.make operator_name_tokens flat _ (W.left squares (W.right_then squares (the_sign W s.Assign refl))) (λ x. refl) (λ x. refl))))
 
   module _ {p q : StmtNodes} (I : StmtsRelate (R m) p q) where
     walk_bound : R m Bound bound_height bound_tokens (bound_over p) (bound_over q)
@@ -167,7 +176,7 @@ module _ {R C : ℕ → Relation} {Pair : ℕ → ℕ → Type 0} (W : Walk R C 
 abbrev pub StillOthers : (ℕ → ℕ → Type 0) → Type 0
 StillOthers Pair = (class : List ℕ) (n m : ℕ) → Pair n m → (x : Modifier × MemberKind) → (other_member n).Fits x → Alone bare_member_tokens (constructor_member n class).Fits x → Alone bare_member_tokens (constructor_member m class).Fits x
 
-module _ {R C : ℕ → Relation} {Pair : ℕ → ℕ → Type 0} (W : Walk R C Pair) (below : (n m : ℕ) → Pair n m → WithinRelate (R m) (within n) (within m)) (still : StillOthers Pair) where
+module _ {R : ℕ → Relation} {C : Bracket → ℕ → Relation} {Pair : ℕ → ℕ → Type 0} (W : Walk R C Pair) (below : (n m : ℕ) → Pair n m → WithinRelate (R m) (within n) (within m)) (still : StillOthers Pair) where
   walk_inits : (n m : ℕ) → Pair n m → R m InitKind bare_init_height init_kind_tokens (init_within n) (init_within m)
   walk_inits zero zero pair = W.empty (λ a. refl) refl
   walk_inits zero (suc m) pair = W.empty (λ a. refl) (inl (inl (inl refl)))
@@ -223,7 +232,7 @@ module _ {R C : ℕ → Relation} {Pair : ℕ → ℕ → Type 0} (W : Walk R C 
 
     walk_class_kind : (class : List ℕ) → R m ClassKind class_kind_height class_kind_tokens (class_kind_within n class) (class_kind_within m class)
     walk_class_kind class = W.one
-        (W.make class_kind_tokens class_kind_height _ (W.both (W.maybe (walk_superclass W nodes)) (W.both (W.maybe (walk_interfaces W nodes)) (after W (the_sign W s.LeftBrace refl) (before W (W.all (walk_member class)) (the_sign W s.RightBrace refl))))) (λ x. refl) (λ x. refl))
+        (W.make class_kind_tokens class_kind_height _ (W.both (W.maybe (walk_superclass W nodes)) (W.both (W.maybe (walk_interfaces W nodes)) (enclosed W braces (W.all (walk_member class))))) (λ x. refl) (λ x. refl))
         (W.make class_kind_tokens class_kind_height _ (after W (the_sign W s.Assign refl) (W.both nodes.expr_nodes.type (W.both (walk_mixins W nodes) (before W (W.maybe (walk_interfaces W nodes)) (the_sign W s.Semicolon refl))))) (λ x. refl) (λ x. refl))
 
     walk_class : R (suc m) Class class_height class_tokens (class_over n) (class_over m)
@@ -237,8 +246,8 @@ module _ {R C : ℕ → Relation} {Pair : ℕ → ℕ → Type 0} (W : Walk R C 
   walk_classes (suc n) (suc m) pair = walk_class n m (W.under pair)
 
   walk_enum : {m : ℕ} → R (suc m) Enum enum_height enum_tokens enum_over enum_over
-  walk_enum = W.make enum_tokens enum_height _ (W.node (after W (the_word W w.Enum) (after W (a_plain_identifier W) (after W (the_sign W s.LeftBrace refl) (after W (an_identifier W)
-      (after W (all_flat W (a_comma_name W)) (after W (maybe_flat W (the_sign W s.Comma refl)) (the_sign W s.RightBrace refl))))))))
+  walk_enum = W.make enum_tokens enum_height _ (W.node (after W (the_word W w.Enum) (after W (a_plain_identifier W) (W.left braces (closing_after W (an_identifier W)
+      (closing_after W (all_flat W (a_comma_name W)) (closing_after W (maybe_flat W (the_sign W s.Comma refl)) (W.right braces))))))))
       (λ x. simp said_sign) (λ x. refl)
 
   walk_enums : (n m : ℕ) → Pair n m → R m Enum enum_height enum_tokens (enum_within n) (enum_within m)

@@ -27,9 +27,10 @@ use Rattle.dart_syntax.specs.Expressions.{ExprNodes, to_selectors, one_or_more_s
 use Rattle.dart_syntax.proofs.AgreeingExpressions.{said_items, said_named, said_entries, said_middles, said_append, said_joined, said_selectors, said_sign, head_tokens}
 use Rattle.dart_syntax.specs.Agreement.{section_tokens}
 use Rattle.syntax_measures.specs.Relations.{Relation, ExprsRelate, section_height}
-use Rattle.syntax_measures.proofs.Scanning.{is_plain, sign_class, both_true, Balanced}
+use Rattle.syntax_measures.proofs.Scanning.{both_true}
+use Rattle.syntax_measures.proofs.BracketKinds.{Bracket, parentheses, squares, braces, is_plain, Plain, single_leaf}
 use Rattle.syntax_measures.proofs.Walk.{Walk, flat}
-use Rattle.syntax_measures.proofs.Walking.{one_name_balanced, the_sign, the_empty, an_identifier, after, before, closed, maybe_flat, with_commas}
+use Rattle.syntax_measures.proofs.Walking.{the_sign, the_empty, an_identifier, after, before, maybe_flat, with_commas, enclosed, one_name_plain}
 use Rattle.syntax_measures.proofs.WalkTypes.{walk_arguments, walk_one_type, walk_two_types}
 
 -- ---- heights of the lists of the trees
@@ -76,26 +77,26 @@ high_cascades (x ∷ xs) = ap (λ (k : ℕ). max (section_height x) k) (high_cas
 
 -- ---- leaves
 
-one_atom_balanced : (x : Atom) → Balanced (atom_tokens x)
-one_atom_balanced (a.This place) k = refl
-one_atom_balanced (a.Null place) k = refl
-one_atom_balanced (a.True place) k = refl
-one_atom_balanced (a.False place) k = refl
-one_atom_balanced (a.Integer place digits) k = refl
-one_atom_balanced (a.Name name) k = one_name_balanced name k
+one_atom_plain : (x : Atom) → Plain (atom_tokens x)
+one_atom_plain (a.This place) = (refl, tt)
+one_atom_plain (a.Null place) = (refl, tt)
+one_atom_plain (a.True place) = (refl, tt)
+one_atom_plain (a.False place) = (refl, tt)
+one_atom_plain (a.Integer place digits) = (refl, tt)
+one_atom_plain (a.Name name) = one_name_plain name
 
-one_creation_balanced : (x : Creation) → Balanced (creation_tokens x)
-one_creation_balanced (c.New place) k = refl
-one_creation_balanced (c.Const place) k = refl
+one_creation_plain : (x : Creation) → Plain (creation_tokens x)
+one_creation_plain (c.New place) = (refl, tt)
+one_creation_plain (c.Const place) = (refl, tt)
 
 abbrev piece_tokens : PieceKind → Place × List ℕ → List Token
 piece_tokens kind x = piece_token kind x.0 x.1 ∷ []
 
-one_piece_balanced : (kind : PieceKind) (x : Place × List ℕ) → Balanced (piece_tokens kind x)
-one_piece_balanced pk.Whole x k = refl
-one_piece_balanced (pk.Head quote) x k = refl
-one_piece_balanced pk.Middle x k = refl
-one_piece_balanced pk.Tail x k = refl
+one_piece_plain : (kind : PieceKind) (x : Place × List ℕ) → Plain (piece_tokens kind x)
+one_piece_plain pk.Whole x = (refl, tt)
+one_piece_plain (pk.Head quote) x = (refl, tt)
+one_piece_plain pk.Middle x = (refl, tt)
+one_piece_plain pk.Tail x = (refl, tt)
 
 -- [ Expr ]
 abbrev index_of : ExprNodes → Phrase Selector
@@ -103,28 +104,28 @@ index_of inner = made selector_tokens (λ x. t.index x.0 x.1.0 x.1.1) (seq (sign
 
 abbrev pub all_plain : List Sign → Bool
 all_plain [] = true
-all_plain (x ∷ xs) = is_plain (sign_class x) && all_plain xs
+all_plain (x ∷ xs) = is_plain x && all_plain xs
 
-module _ {R C : ℕ → Relation} {Pair : ℕ → ℕ → Type 0} (W : Walk R C Pair) {m : ℕ} where
+module _ {R : ℕ → Relation} {C : Bracket → ℕ → Relation} {Pair : ℕ → ℕ → Type 0} (W : Walk R C Pair) {m : ℕ} where
   pub an_atom : R m Atom flat atom_tokens atom atom
-  an_atom = W.same atom (λ x fits. refl) (λ x fits. one_atom_balanced x)
+  an_atom = W.same atom (λ x fits. refl) (single_leaf atom_tokens one_atom_plain)
 
   pub a_creation : R m Creation flat creation_tokens creation creation
-  a_creation = W.same creation (λ x fits. refl) (λ x fits. one_creation_balanced x)
+  a_creation = W.same creation (λ x fits. refl) (single_leaf creation_tokens one_creation_plain)
 
   pub a_label : R m Label flat label_tokens label label
   a_label = W.make label_tokens flat _ (before W (an_identifier W) (the_sign W s.Colon refl)) (λ x. refl) (λ x. refl)
 
   a_head : R m (Quote × (Place × List ℕ)) flat head_tokens head head
-  a_head = W.same head (λ x fits. refl) (λ x fits k. refl)
+  a_head = W.same head (λ x fits. refl) (single_leaf head_tokens (λ x. (refl, tt)))
 
   a_piece : (kind : PieceKind) → R m (Place × List ℕ) flat (piece_tokens kind) (piece kind) (piece kind)
-  a_piece kind = W.same (piece kind) (λ x fits. refl) (λ x fits. one_piece_balanced kind x)
+  a_piece kind = W.same (piece kind) (λ x fits. refl) (single_leaf (piece_tokens kind) (one_piece_plain kind))
 
   pub the_one_of : (xs : List Sign) → all_plain xs ≡ true → R m Operator flat operator_tokens (one_of xs) (one_of xs)
   the_one_of [] plain = W.empty (λ a. refl) refl
   the_one_of (x ∷ xs) plain =
-      let both : (is_plain (sign_class x) ≡ true) × (all_plain xs ≡ true) = both_true (is_plain (sign_class x)) (all_plain xs) plain in
+      let both : (is_plain x ≡ true) × (all_plain xs ≡ true) = both_true (is_plain x) (all_plain xs) plain in
       W.one (W.make operator_tokens flat (λ place. o.Sign place x) (the_sign W x both.0) (λ place. refl) (λ place. refl)) (the_one_of xs both.1)
 
   pub an_assigning : R m Operator flat operator_tokens assigning assigning
@@ -138,7 +139,7 @@ module _ {R C : ℕ → Relation} {Pair : ℕ → ℕ → Type 0} (W : Walk R C 
     unfolding value_tokens height.value_height
     walk_maybe_expr = W.or_none t.omitted refl refl (W.make value_tokens height.value_height _ P (λ x. refl) (λ x. refl))
 
-    pub walk_after_sign : (which : Sign) → is_plain (sign_class which) ≡ true → R m Value height.value_height value_tokens (after_sign which p) (after_sign which q)
+    pub walk_after_sign : (which : Sign) → is_plain which ≡ true → R m Value height.value_height value_tokens (after_sign which p) (after_sign which q)
     unfolding value_tokens height.value_height
     walk_after_sign which plain = W.or_none t.omitted refl refl (W.make value_tokens height.value_height _ (after W (the_sign W which plain) P) (λ x. refl) (λ x. refl))
 
@@ -172,12 +173,12 @@ module _ {R C : ℕ → Relation} {Pair : ℕ → ℕ → Type 0} (W : Walk R C 
 
     pub walk_arguments_node : R (suc m) Arguments height.arguments_height arguments_tokens (arguments_over p) (arguments_over q)
     unfolding arguments_tokens height.arguments_height
-    walk_arguments_node = W.make arguments_tokens height.arguments_height _ (W.node (W.left (closed W walk_argument_items))) (λ x. refl) (λ x. refl)
+    walk_arguments_node = W.make arguments_tokens height.arguments_height _ (W.node (enclosed W parentheses walk_argument_items)) (λ x. refl) (λ x. refl)
 
     walk_list : R (suc m) Primary height.primary_height primary_tokens (list_over p) (list_over q)
     unfolding primary_tokens height.primary_height height.items_height
     walk_list = W.make primary_tokens height.primary_height _ (W.node (W.both (walk_arguments W (walk_one_type W I.type))
-        (after W (the_sign W s.LeftBracket refl) (before W (W.or_none (t.no_items, None) refl refl (before W (walk_plain_list I.expr) (maybe_flat W (the_sign W s.Comma refl)))) (the_sign W s.RightBracket refl)))))
+        (enclosed W squares (W.or_none (t.no_items, None) refl refl (before W (walk_plain_list I.expr) (maybe_flat W (the_sign W s.Comma refl)))))))
         (λ x. simp (said_sign, append_assoc)) (λ x. refl)
 
     walk_entries : R m Entries height.entries_height entries_tokens (entries_over p) (entries_over q)
@@ -187,7 +188,7 @@ module _ {R C : ℕ → Relation} {Pair : ℕ → ℕ → Type 0} (W : Walk R C 
     walk_map : R (suc m) Primary height.primary_height primary_tokens (map_over p) (map_over q)
     unfolding primary_tokens height.primary_height height.entries_height
     walk_map = W.make primary_tokens height.primary_height _ (W.node (W.both (walk_arguments W (walk_two_types W I.type))
-        (after W (the_sign W s.LeftBrace refl) (before W (W.or_none (t.no_entries, None) refl refl (before W walk_entries (maybe_flat W (the_sign W s.Comma refl)))) (the_sign W s.RightBrace refl)))))
+        (enclosed W braces (W.or_none (t.no_entries, None) refl refl (before W walk_entries (maybe_flat W (the_sign W s.Comma refl)))))))
         (λ x. simp (said_sign, append_assoc)) (λ x. refl)
 
     walk_literal_body : R m Body height.body_height body_tokens (literal_body_over p) (literal_body_over q)
@@ -203,7 +204,7 @@ module _ {R C : ℕ → Relation} {Pair : ℕ → ℕ → Type 0} (W : Walk R C 
 
     walk_index : R m Selector height.selector_height selector_tokens (index_of p) (index_of q)
     unfolding selector_tokens height.selector_height
-    walk_index = W.make selector_tokens height.selector_height _ (after W (the_sign W s.LeftBracket refl) (before W I.expr (the_sign W s.RightBracket refl))) (λ x. refl) (λ x. refl)
+    walk_index = W.make selector_tokens height.selector_height _ (enclosed W squares I.expr) (λ x. refl) (λ x. refl)
 
     pub walk_bracketed : R m Selector height.selector_height selector_tokens (bracketed_of p) (bracketed_of q)
     unfolding selector_tokens height.selector_height

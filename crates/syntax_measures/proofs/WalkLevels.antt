@@ -23,8 +23,9 @@ use Rattle.dart_syntax.proofs.AgreeingExpressions.{said_sign, said_selectors, sa
 use Rattle.dart_syntax.specs.Agreement.{section_tokens}
 use Rattle.syntax_measures.specs.Relations.{Relation, ExprsRelate, LevelsRelate, section_height}
 use Rattle.syntax_measures.proofs.Walk.{Walk, flat, higher}
-use Rattle.syntax_measures.proofs.Walking.{the_sign, the_word, a_dot_name, after, before_if, closed, maybe_flat}
+use Rattle.syntax_measures.proofs.Walking.{the_sign, the_word, a_dot_name, after, before_if, maybe_flat, enclosed}
 use Rattle.syntax_measures.proofs.WalkExpressions.{high_selectors, high_cascades, an_atom, a_creation, all_plain, the_one_of, an_assigning, walk_strings, walk_member, walk_selector, walk_bracketed}
+use Rattle.syntax_measures.proofs.BracketKinds.{Bracket, parentheses}
 
 -- ---- heights
 
@@ -85,7 +86,7 @@ plain_at [] plain i = refl
 plain_at (row ∷ more) plain zero = plain.0
 plain_at (row ∷ more) plain (suc i) = plain_at more plain.1 i
 
-each_row_plain : (i : ℕ) → is_plain_row (row_at rows i) ≡ true
+pub each_row_plain : (i : ℕ) → is_plain_row (row_at rows i) ≡ true
 each_row_plain = plain_at rows (refl, (refl, (refl, (refl, (refl, (refl, (refl, (refl, (refl, (refl, (refl, tt)))))))))))
 
 -- a primary with its selectors, and an operand with its cascades
@@ -98,14 +99,14 @@ cascaded_tokens = both_spelling operand_tokens (flat_map section_tokens)
 abbrev stepping : List Sign
 stepping = s.PlusPlus ∷ s.MinusMinus ∷ []
 
-module _ {R C : ℕ → Relation} {Pair : ℕ → ℕ → Type 0} (W : Walk R C Pair) {m : ℕ} where
+module _ {R : ℕ → Relation} {C : Bracket → ℕ → Relation} {Pair : ℕ → ℕ → Type 0} (W : Walk R C Pair) {m : ℕ} where
   walk_primary : {p q : ExprNodes} → ExprsRelate (R m) p q → R m Primary height.primary_height primary_tokens (primary_of p) (primary_of q)
   unfolding primary_tokens height.primary_height
   walk_primary H = W.one (W.make primary_tokens height.primary_height t.atom (an_atom W) (λ x. refl) (λ x. refl))
       (W.one (W.make primary_tokens height.primary_height t.text (walk_strings W H.expr) (λ x. refl) (λ x. refl))
       (W.one (W.make primary_tokens height.primary_height _ (after W (the_word W w.Super) (walk_selector W H)) (λ x. refl) (λ x. refl))
       (W.one (W.make primary_tokens height.primary_height _ (after W (a_creation W) (W.good type_takes_names (W.both H.type (after W (maybe_flat W (a_dot_name W)) H.arguments)))) (λ x. refl) (λ x. refl))
-      (W.one (W.make primary_tokens height.primary_height _ (W.left (closed W H.expr)) (λ x. refl) (λ x. refl))
+      (W.one (W.make primary_tokens height.primary_height _ (enclosed W parentheses H.expr) (λ x. refl) (λ x. refl))
       H.literal))))
 
   -- ---- nodes of operators
@@ -153,7 +154,7 @@ module _ {R C : ℕ → Relation} {Pair : ℕ → ℕ → Type 0} (W : Walk R C 
   -- ---- the rows of operators
 
   module _ {p q : ExprNodes} (I : ExprsRelate (R m) p q) where
-    walk_row : (row : Row) → is_plain_row row ≡ true → {under below : Phrase Operand} → R m Operand height.operand_height operand_tokens under below → R (suc m) Operand height.operand_height operand_tokens (row_over row p under) (row_over row q below)
+    pub walk_row : (row : Row) → is_plain_row row ≡ true → {under below : Phrase Operand} → R m Operand height.operand_height operand_tokens under below → R (suc m) Operand height.operand_height operand_tokens (row_over row p under) (row_over row q below)
     unfolding operand_tokens height.operand_height
     walk_row (chained sign more) plain P = walk_chain (the_one_of W (sign ∷ more) plain) P (W.one P I.bare) (sign_level sign)
     walk_row shifts plain P = walk_chain walk_shifting P (W.one P I.bare) (sign_level s.ShiftLeft)
@@ -200,7 +201,7 @@ module _ {R C : ℕ → Relation} {Pair : ℕ → ℕ → Type 0} (W : Walk R C 
       let operand : R m Operand height.operand_height operand_tokens (made operand_tokens t.primary (primary_of here)) (made operand_tokens t.primary (primary_of there)) = walk_operand primary in
       record { primary = primary; bracketed = walk_bracketed W H; target = walk_operand (W.good primary_assigns primary); postfix = operand; row = λ i. operand }
 
-module _ {R C : ℕ → Relation} {Pair : ℕ → ℕ → Type 0} (W : Walk R C Pair) where
+module _ {R : ℕ → Relation} {C : Bracket → ℕ → Relation} {Pair : ℕ → ℕ → Type 0} (W : Walk R C Pair) where
   pub walk_levels : (m : ℕ) (here there inner other : ExprNodes) (under below : Levels) → ExprsRelate (R (suc m)) here there → ExprsRelate (R m) inner other → LevelsRelate (R m) under below → LevelsRelate (R (suc m)) (levels_over here inner under) (levels_over there other below)
   walk_levels m here there inner other under below H I U =
       let p : Levels = levels_over here inner under in

@@ -22,11 +22,12 @@ use Rattle.dart_syntax.specs.Agreement.{StmtsAgree}
 use Rattle.dart_syntax.proofs.AgreeingStages.{said_stmts, said_labels, said_switch_parts, said_finally, said_append, said_parts, within_agrees}
 use Rattle.syntax_measures.specs.Relations.{Relation, StmtsRelate, WithinRelate, written_catch_height}
 use Rattle.syntax_measures.proofs.Walk.{Walk, higher}
-use Rattle.syntax_measures.proofs.Walking.{emptied, the_sign, the_word, the_name, an_identifier, after, before, closed, closing_after, maybe_flat, all_flat}
+use Rattle.syntax_measures.proofs.Walking.{emptied, the_sign, the_word, the_name, an_identifier, after, closing_after, maybe_flat, all_flat, before, enclosed}
 use Rattle.syntax_measures.proofs.WalkTypes.{some_height, walk_some_kind, walk_type_within}
 use Rattle.syntax_measures.proofs.WalkExpressions.{a_label, walk_maybe_expr, walk_plain_list, walk_arguments_node, walk_literal, walk_cascade}
 use Rattle.syntax_measures.proofs.WalkLevels.{walk_expr, walk_without, walk_flat, walk_levels, walk_raised, walk_lowered}
 use Rattle.syntax_measures.proofs.WalkStatements.{walk_parameter, walk_parameters, walk_variables, walk_local_function, walk_catch}
+use Rattle.syntax_measures.proofs.BracketKinds.{Bracket, parentheses, braces}
 
 -- ---- heights
 
@@ -78,33 +79,33 @@ updates_tokens = both_spelling items_tokens (both_spelling (sign_tokens s.RightP
 abbrev finally_tokens : Place × Block → List Token
 finally_tokens = both_spelling (word_tokens w.Finally) block_tokens
 
-module _ {R C : ℕ → Relation} {Pair : ℕ → ℕ → Type 0} (W : Walk R C Pair) {m : ℕ} where
+module _ {R : ℕ → Relation} {C : Bracket → ℕ → Relation} {Pair : ℕ → ℕ → Type 0} (W : Walk R C Pair) {m : ℕ} where
   -- ---- statements that hold statements
 
   module _ {p q : Within} (I : WithinRelate (R m) p q) where
     walk_condition : R m (Place × (Expr × Place)) (λ x. height.expr_height x.1.0) condition_tokens (condition_over p) (condition_over q)
-    walk_condition = W.left (closed W I.nodes.expr_nodes.expr)
+    walk_condition = enclosed W parentheses I.nodes.expr_nodes.expr
 
     walk_block : R (suc m) Block height.block_height block_tokens (block_over p) (block_over q)
     unfolding block_tokens height.block_height
-    walk_block = W.make block_tokens height.block_height _ (W.node (after W (the_sign W s.LeftBrace refl) (before W (W.all I.stmt) (the_sign W s.RightBrace refl)))) (λ x. simp said_stmts) (λ x. simp high_stmts)
+    walk_block = W.make block_tokens height.block_height _ (W.node (enclosed W braces (W.all I.stmt))) (λ x. simp said_stmts) (λ x. simp high_stmts)
 
     walk_if : R (suc m) Stmt height.stmt_height stmt_tokens (if_over p) (if_over q)
     unfolding stmt_tokens height.stmt_height
     walk_if = W.one (W.make stmt_tokens height.stmt_height _ (W.node (after W (the_word W w.If) (W.both walk_condition I.stmt))) (λ x. simp append_assoc) (λ x. refl))
         (W.make stmt_tokens height.stmt_height _ (W.node (after W (the_word W w.If) (W.both walk_condition (W.both_if is_shut I.stmt (after W (the_word W w.Else) I.stmt))))) (λ x. simp append_assoc) (λ x. refl))
 
-    walk_updates : C m (Items × (Place × Stmt)) (higher height.items_height (λ x. height.stmt_height x.1)) updates_tokens (updates_over p) (updates_over q)
+    walk_updates : C parentheses m (Items × (Place × Stmt)) (higher height.items_height (λ x. height.stmt_height x.1)) updates_tokens (updates_over p) (updates_over q)
     unfolding items_tokens height.items_height
-    walk_updates = W.closing (W.or_none t.no_items refl refl (walk_plain_list W I.nodes.expr_nodes.expr)) (W.right_then I.stmt)
+    walk_updates = W.closing (W.or_none t.no_items refl refl (walk_plain_list W I.nodes.expr_nodes.expr)) (W.right_then parentheses I.stmt)
 
     walk_for : R (suc m) Loop height.loop_height loop_tokens (for_over p) (for_over q)
     unfolding loop_tokens height.loop_height
     walk_for = W.one
-        (W.make loop_tokens height.loop_height _ (W.node (after W (the_word W w.For) (W.left (W.closing (walk_maybe_expr W I.nodes.expr_nodes.expr) (closing_after W (the_sign W s.Semicolon refl) (W.closing (walk_maybe_expr W I.nodes.expr_nodes.expr) (closing_after W (the_sign W s.Semicolon refl) walk_updates))))))) (λ x. refl) (λ x. refl))
+        (W.make loop_tokens height.loop_height _ (W.node (after W (the_word W w.For) (W.left parentheses (W.closing (walk_maybe_expr W I.nodes.expr_nodes.expr) (closing_after W (the_sign W s.Semicolon refl) (W.closing (walk_maybe_expr W I.nodes.expr_nodes.expr) (closing_after W (the_sign W s.Semicolon refl) walk_updates))))))) (λ x. refl) (λ x. refl))
         (W.one
-        (W.make loop_tokens height.loop_height _ (W.node (after W (the_word W w.For) (W.left (W.closing I.nodes.variables (W.closing (walk_maybe_expr W I.nodes.expr_nodes.expr) (closing_after W (the_sign W s.Semicolon refl) walk_updates)))))) (λ x. refl) (λ x. refl))
-        (W.make loop_tokens height.loop_height _ (W.node (after W (the_word W w.For) (W.left (W.closing (walk_some_kind W I.nodes.expr_nodes.type) (closing_after W (an_identifier W) (closing_after W (the_word W w.In) (W.closing I.nodes.expr_nodes.expr (W.right_then I.stmt)))))))) (λ x. refl) (λ x. refl)))
+        (W.make loop_tokens height.loop_height _ (W.node (after W (the_word W w.For) (W.left parentheses (W.closing I.nodes.variables (W.closing (walk_maybe_expr W I.nodes.expr_nodes.expr) (closing_after W (the_sign W s.Semicolon refl) walk_updates)))))) (λ x. refl) (λ x. refl))
+        (W.make loop_tokens height.loop_height _ (W.node (after W (the_word W w.For) (W.left parentheses (W.closing (walk_some_kind W I.nodes.expr_nodes.type) (closing_after W (an_identifier W) (closing_after W (the_word W w.In) (W.closing I.nodes.expr_nodes.expr (W.right_then parentheses I.stmt)))))))) (λ x. refl) (λ x. refl)))
 
     walk_while : R (suc m) Loop height.loop_height loop_tokens (while_over p) (while_over q)
     unfolding loop_tokens height.loop_height
@@ -122,7 +123,7 @@ module _ {R C : ℕ → Relation} {Pair : ℕ → ℕ → Type 0} (W : Walk R C 
 
     walk_switch : R (suc m) Stmt height.stmt_height stmt_tokens (switch_over p) (switch_over q)
     unfolding stmt_tokens height.stmt_height
-    walk_switch = W.make stmt_tokens height.stmt_height _ (W.node (after W (the_word W w.Switch) (W.both walk_condition (after W (the_sign W s.LeftBrace refl) (before W walk_switch_parts (the_sign W s.RightBrace refl)))))) (λ x. simp append_assoc) (λ x. refl)
+    walk_switch = W.make stmt_tokens height.stmt_height _ (W.node (after W (the_word W w.Switch) (W.both walk_condition (enclosed W braces walk_switch_parts)))) (λ x. simp append_assoc) (λ x. refl)
 
     walk_try_part : R m TryParts height.try_parts_height try_parts_tokens (try_part_over p) (try_part_over q)
     unfolding try_parts_tokens height.try_parts_height
@@ -232,7 +233,7 @@ module _ (p : Within) where
 abbrev pub StillActs : (ℕ → ℕ → Type 0) → Type 0
 StillActs Pair = (n m : ℕ) → Pair n m → (x : Stmt) → (other_statement_of (within n).nodes).Fits x → Alone stmt_tokens (declaration_of (within n).nodes).Fits x → Alone stmt_tokens (declaration_of (within m).nodes).Fits x
 
-module _ {R C : ℕ → Relation} {Pair : ℕ → ℕ → Type 0} (W : Walk R C Pair) where
+module _ {R : ℕ → Relation} {C : Bracket → ℕ → Relation} {Pair : ℕ → ℕ → Type 0} (W : Walk R C Pair) where
   -- a `super` alone
   walk_bare : {m : ℕ} → R (suc m) Operand height.operand_height operand_tokens (made operand_tokens (λ x. t.primary (t.bare_super x)) (word w.Super)) (made operand_tokens (λ x. t.primary (t.bare_super x)) (word w.Super))
   unfolding operand_tokens primary_tokens height.operand_height height.primary_height

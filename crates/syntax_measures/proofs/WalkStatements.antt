@@ -21,18 +21,18 @@ use Rattle.dart_tree.specs.Tree.{Value, ParameterKind, Body, Arguments, Paramete
 use Rattle.dart_tree.specs.Tokens.{parameter_kind_tokens, body_tokens, parameters_tokens, annotation_tokens, variables_tokens, function_tokens, parameter_list_tokens, metadata_tokens}
 use Rattle.dart_tree.specs.Depth as height
 use Rattle.dart_tree.specs.Depth.{height_if, highest, result_height}
-use Rattle.dart_syntax.specs.Phrases.{Phrase, perhaps}
-use Rattle.dart_syntax.specs.Leaves.{sign_tokens, word_tokens, this_dot_tokens, comma_name_tokens, comma_name}
+use Rattle.dart_syntax.specs.Phrases.{Phrase, perhaps, ◌~◌, made}
+use Rattle.dart_syntax.specs.Leaves.{sign_tokens, word_tokens, this_dot_tokens, comma_name_tokens, comma_name, commas}
 use Rattle.dart_syntax.specs.Types.{kind_leaves_name, result_leaves_name}
-use Rattle.dart_syntax.specs.Expressions.{ExprNodes}
+use Rattle.dart_syntax.specs.Expressions.{ExprNodes, after_sign}
 use Rattle.dart_syntax.specs.Statements.{StmtNodes, to_metadata, to_annotation, more_required, to_required, more_optional, to_optional, with_optional, more_variables, metadata_of, this_dot, whole_body, body_of, parameter_over, required_over, optional_over, required_before, bracketed_over, parameters_over, variables_over, function_over, local_function_over, catch_over}
 use Rattle.dart_syntax.specs.Agreement.{bare_parameter_tokens}
 use Rattle.dart_syntax.proofs.AgreeingExpressions.{said_sign}
 use Rattle.dart_syntax.proofs.AgreeingStatements.{said_word, said_metadata, said_annotation, said_required, said_optional, said_variables}
 use Rattle.syntax_measures.specs.Relations.{Relation, ExprsRelate, StmtsRelate, written_result_height, written_catch_height, bare_parameter_height}
-use Rattle.syntax_measures.proofs.Scanning.{is_plain, sign_class}
+use Rattle.syntax_measures.proofs.BracketKinds.{Bracket, parentheses, squares, braces, is_plain}
 use Rattle.syntax_measures.proofs.Walk.{Walk, flat}
-use Rattle.syntax_measures.proofs.Walking.{the_sign, the_word, the_empty, an_identifier, a_dot_name, after, before, before_if, closed, closing_after, maybe_flat, all_flat, with_commas}
+use Rattle.syntax_measures.proofs.Walking.{the_sign, the_word, the_empty, an_identifier, a_dot_name, after, before, before_if, closed, closing_after, maybe_flat, all_flat, with_commas, enclosed}
 use Rattle.syntax_measures.proofs.WalkTypes.{walk_result, walk_variables_kind, walk_some_kind}
 use Rattle.syntax_measures.proofs.WalkExpressions.{walk_after_sign}
 
@@ -67,14 +67,6 @@ unfolding height.more_variables_height
 high_variables [] = refl
 high_variables (x ∷ xs) = ap (λ (k : ℕ). max (height.value_height x.1.1) k) (high_variables xs)
 
-plain_left : (kind : BracketKind) → is_plain (sign_class (left_of kind)) ≡ true
-plain_left b.Square = refl
-plain_left b.Curly = refl
-
-plain_right : (kind : BracketKind) → is_plain (sign_class (right_of kind)) ≡ true
-plain_right b.Square = refl
-plain_right b.Curly = refl
-
 -- required parameters before others, and optional ones in their brackets
 abbrev before_tokens : ParameterList × Option Place → List Token
 before_tokens = both_spelling parameter_list_tokens (option_spelling (sign_tokens s.Comma))
@@ -82,7 +74,7 @@ before_tokens = both_spelling parameter_list_tokens (option_spelling (sign_token
 abbrev optional_tokens : BracketKind → Place × (ParameterList × Place) → List Token
 optional_tokens kind = both_spelling (sign_tokens (left_of kind)) (both_spelling parameter_list_tokens (sign_tokens (right_of kind)))
 
-module _ {R C : ℕ → Relation} {Pair : ℕ → ℕ → Type 0} (W : Walk R C Pair) {m : ℕ} where
+module _ {R : ℕ → Relation} {C : Bracket → ℕ → Relation} {Pair : ℕ → ℕ → Type 0} (W : Walk R C Pair) {m : ℕ} where
   -- ---- metadata and bodies
 
   module _ {p q : ExprNodes} (H : ExprsRelate (R m) p q) where
@@ -122,24 +114,31 @@ module _ {R C : ℕ → Relation} {Pair : ℕ → ℕ → Type 0} (W : Walk R C 
     unfolding parameter_list_tokens height.parameter_list_height
     walk_no_or_required = W.or_none t.no_parameters refl refl walk_required
 
-    pub walk_optional : (kind : BracketKind) (which : Sign) → is_plain (sign_class which) ≡ true → R m (Place × (ParameterList × Place)) (λ x. height.parameter_list_height x.1.0) (optional_tokens kind) (optional_over p kind which) (optional_over q kind which)
+    -- optional parameters, which may have defaults
+    abbrev defaulted_of : StmtNodes → Sign → Phrase ParameterList
+    defaulted_of nodes which = made parameter_list_tokens to_optional (commas (nodes.parameter ~ after_sign which nodes.expr_nodes.expr))
+
+    walk_defaulted : (which : Sign) → is_plain which ≡ true → R m ParameterList height.parameter_list_height parameter_list_tokens (defaulted_of p which) (defaulted_of q which)
     unfolding parameter_list_tokens height.parameter_list_height height.parameter_height
-    walk_optional kind which plain = after W (the_sign W (left_of kind) (plain_left kind)) (before W
-        (W.make parameter_list_tokens height.parameter_list_height to_optional (with_commas W (W.both I.parameter (walk_after_sign W I.expr_nodes.expr which plain))) (λ x. simp (said_optional, append_assoc)) (λ x. omega (arith, high_optional x.1)))
-        (the_sign W (right_of kind) (plain_right kind)))
+    walk_defaulted which plain = W.make parameter_list_tokens height.parameter_list_height to_optional (with_commas W (W.both I.parameter (walk_after_sign W I.expr_nodes.expr which plain))) (λ x. simp (said_optional, append_assoc)) (λ x. omega (arith, high_optional x.1))
+
+    pub walk_optional : (kind : BracketKind) (which : Sign) → is_plain which ≡ true → R m (Place × (ParameterList × Place)) (λ x. height.parameter_list_height x.1.0) (optional_tokens kind) (optional_over p kind which) (optional_over q kind which)
+    unfolding parameter_list_tokens height.parameter_list_height height.parameter_height
+    walk_optional b.Square which plain = enclosed W squares (walk_defaulted which plain)
+    walk_optional b.Curly which plain = enclosed W braces (walk_defaulted which plain)
 
     pub walk_required_before : R m (ParameterList × Option Place) (λ x. height.parameter_list_height x.0) before_tokens (required_before p) (required_before q)
     unfolding parameter_list_tokens height.parameter_list_height
     walk_required_before = W.or_none (t.no_parameters, None) refl refl (W.make before_tokens (λ x. height.parameter_list_height x.0) _ (before W walk_required (the_sign W s.Comma refl)) (λ x. refl) (λ x. refl))
 
-    walk_in_brackets : (kind : BracketKind) (which : Sign) → is_plain (sign_class which) ≡ true → R (suc m) Parameters height.parameters_height parameters_tokens (bracketed_over p kind which) (bracketed_over q kind which)
+    walk_in_brackets : (kind : BracketKind) (which : Sign) → is_plain which ≡ true → R (suc m) Parameters height.parameters_height parameters_tokens (bracketed_over p kind which) (bracketed_over q kind which)
     unfolding parameters_tokens height.parameters_height
-    walk_in_brackets kind which plain = W.make parameters_tokens height.parameters_height (with_optional kind) (W.node (W.left (W.closing walk_required_before (closed W (walk_optional kind which plain))))) (λ x. simp (said_sign, append_assoc)) (λ x. refl)
+    walk_in_brackets kind which plain = W.make parameters_tokens height.parameters_height (with_optional kind) (W.node (W.left parentheses (W.closing walk_required_before (closed W parentheses (walk_optional kind which plain))))) (λ x. simp (said_sign, append_assoc)) (λ x. refl)
 
     pub walk_parameters : R (suc m) Parameters height.parameters_height parameters_tokens (parameters_over p) (parameters_over q)
     unfolding parameters_tokens height.parameters_height parameter_list_tokens height.parameter_list_height
     walk_parameters = W.one
-        (W.make parameters_tokens height.parameters_height _ (W.node (W.left (closed W walk_no_or_required))) (λ x. refl) (λ x. omega arith))
+        (W.make parameters_tokens height.parameters_height _ (W.node (enclosed W parentheses walk_no_or_required)) (λ x. refl) (λ x. omega arith))
         (W.one (walk_in_brackets b.Square s.Assign refl) (walk_in_brackets b.Curly s.Colon refl))
 
     -- ---- variables and functions
@@ -159,4 +158,4 @@ module _ {R C : ℕ → Relation} {Pair : ℕ → ℕ → Type 0} (W : Walk R C 
     walk_local_function = walk_function (the_empty W (option_spelling (word_tokens w.External)) None refl refl) (walk_whole_body I.expr_nodes)
 
     pub walk_catch : R (suc m) Catch written_catch_height catch_tokens (catch_over p) (catch_over q)
-    walk_catch = W.make catch_tokens written_catch_height _ (W.node (after W (the_word W w.Catch) (W.left (closing_after W (an_identifier W) (closed W (maybe_flat W a_comma_name)))))) (λ x. refl) (λ x. refl)
+    walk_catch = W.make catch_tokens written_catch_height _ (W.node (after W (the_word W w.Catch) (W.left parentheses (closing_after W (an_identifier W) (closed W parentheses (maybe_flat W a_comma_name)))))) (λ x. refl) (λ x. refl)

@@ -14,6 +14,7 @@ use Rattle.dart_syntax.proofs.AgreeingTypes.{said_more, said_angles, types_withi
 use Rattle.syntax_measures.specs.Relations.{Relation, TypesRelate, written_result_height}
 use Rattle.syntax_measures.proofs.Walk.{Walk}
 use Rattle.syntax_measures.proofs.Walking.{emptied, the_sign, the_word, the_empty, an_identifier, a_dot_name, after, before, maybe_flat, with_commas}
+use Rattle.syntax_measures.proofs.BracketKinds.{Bracket}
 
 -- ---- heights of the lists of the trees
 
@@ -33,7 +34,7 @@ pub some_height : (x : TypeNode) → type_height x ≤ 0 → ⊥
 some_height (dynamic_type place) low = omega arith
 some_height (named_type name member given) low = omega arith
 
-module _ {R C : ℕ → Relation} {Pair : ℕ → ℕ → Type 0} (W : Walk R C Pair) {m : ℕ} where
+module _ {R : ℕ → Relation} {C : Bracket → ℕ → Relation} {Pair : ℕ → ℕ → Type 0} (W : Walk R C Pair) {m : ℕ} where
   pub walk_arguments : {p q : Phrase TypeList} → R m TypeList type_list_height type_list_tokens p q → R m TypeArguments type_arguments_height type_arguments_tokens (type_arguments p) (type_arguments q)
   walk_arguments P = W.make type_arguments_tokens type_arguments_height in_angles (W.maybe (after W (the_sign W s.Less refl) (before W P (the_sign W s.Greater refl)))) said_angles high_angles
 
@@ -66,7 +67,7 @@ module _ {R C : ℕ → Relation} {Pair : ℕ → ℕ → Type 0} (W : Walk R C 
     walk_type = W.one (W.make type_tokens type_height dynamic_type (W.node (the_word W w.Dynamic)) (λ x. refl) (λ x. refl))
         (W.make type_tokens type_height _ (W.node (after W (an_identifier W) (after W (maybe_flat W (a_dot_name W)) (walk_arguments walk_types)))) (λ x. refl) (λ x. refl))
 
-module _ {R C : ℕ → Relation} {Pair : ℕ → ℕ → Type 0} (W : Walk R C Pair) where
+module _ {R : ℕ → Relation} {C : Bracket → ℕ → Relation} {Pair : ℕ → ℕ → Type 0} (W : Walk R C Pair) where
   pub walk_type_within : (n m : ℕ) → Pair n m → R m TypeNode type_height type_tokens (type_within n) (type_within m)
   unfolding type_within
   walk_type_within zero m pair = emptied W (types_within_agree m)

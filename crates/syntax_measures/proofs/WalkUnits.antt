@@ -26,6 +26,7 @@ use Rattle.syntax_measures.proofs.Walking.{emptied, the_sign, the_word, the_name
 use Rattle.syntax_measures.proofs.WalkExpressions.{walk_strings}
 use Rattle.syntax_measures.proofs.WalkStatements.{a_comma_name, walk_metadata}
 use Rattle.syntax_measures.proofs.WalkDeclarations.{StillOthers, a_plain_identifier, walk_declaration}
+use Rattle.syntax_measures.proofs.BracketKinds.{Bracket}
 
 -- ---- heights
 
@@ -37,7 +38,7 @@ high_append : (xs ys : List Directive) → highest directive_height (xs ++ ys) �
 high_append [] ys = omega arith
 high_append (x ∷ xs) ys = omega (arith, high_append xs ys)
 
-module _ {R C : ℕ → Relation} {Pair : ℕ → ℕ → Type 0} (W : Walk R C Pair) {m : ℕ} where
+module _ {R : ℕ → Relation} {C : Bracket → ℕ → Relation} {Pair : ℕ → ℕ → Type 0} (W : Walk R C Pair) {m : ℕ} where
   some_dotted : R m (Identifier × List DotName) flat (both_spelling identifier_tokens (flat_map dot_name_tokens)) dotted dotted
   some_dotted = after W (an_identifier W) (all_flat W (a_dot_name W))
 
@@ -76,7 +77,7 @@ module _ {R C : ℕ → Relation} {Pair : ℕ → ℕ → Type 0} (W : Walk R C 
 
 -- ---- by depth
 
-module _ {R C : ℕ → Relation} {Pair : ℕ → ℕ → Type 0} (W : Walk R C Pair) (below : (n m : ℕ) → Pair n m → WithinRelate (R m) (within n) (within m)) (still : StillOthers Pair) where
+module _ {R : ℕ → Relation} {C : Bracket → ℕ → Relation} {Pair : ℕ → ℕ → Type 0} (W : Walk R C Pair) (below : (n m : ℕ) → Pair n m → WithinRelate (R m) (within n) (within m)) (still : StillOthers Pair) where
   module _ (over : ExprNodes → Phrase Directive) (walk : (m : ℕ) (p q : ExprNodes) → ExprsRelate (R m) p q → R (suc m) Directive directive_height directive_tokens (over p) (over q)) (agree : (m : ℕ) → Agrees directive_tokens (directive_within over m)) where
     walk_directives : (n m : ℕ) → Pair n m → R m Directive directive_height directive_tokens (directive_within over n) (directive_within over m)
     walk_directives zero m pair = emptied W (agree m)
