@@ -19,6 +19,7 @@ pub mod Functions
 pub mod Stages
 pub mod Unary
 pub mod Rows
+pub mod Rising
 pub mod Halved
 pub mod Shifts
 pub mod Begun
@@ -38,3 +39,8 @@ pub mod Cascaded
 pub mod Selected
 pub mod Expressions
 pub mod Postfix
+pub mod Enclosed
+pub mod Bracketed
+pub mod Parentheses
+pub mod Depths
+pub mod Table

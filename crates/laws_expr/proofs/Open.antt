@@ -80,11 +80,11 @@ Whole F (x, None) = F x
 Whole F (x, Some greater) = ⊥
 
 module _ {A : Type 0} {q : Reader Token A} {tokens : A → List Token} {F : A → Type 0} {front : Front Token} {first : List ℕ} {next : A → List ℕ} (Q : Laws class_of q tokens F front first next false) (half : A → List ℕ) where
-  shut_back : (x : Open A) → Whole F x → (a : A) × F a × (with_none a ≡ x)
+  pub shut_back : (x : Open A) → Whole F x → (a : A) × F a × (with_none a ≡ x)
   shut_back (x, None) fits = (x, fits, refl)
   shut_back (x, Some greater) fits = absurd fits
 
-  pub shut_laws : OpenLaws (shut q) tokens F front first next half
+  abbrev pub shut_laws : OpenLaws (shut q) tokens F front first next half
   shut_laws = record {
     Fits = Whole F;
     none_in = λ x fits. fits;

@@ -37,7 +37,7 @@ use Rattle.laws_expr.proofs.Functions.{half_primary}
 use Rattle.laws_expr.proofs.Unary.{primary_first}
 
 -- a primary that goes on with what it alone goes on with
-alone_on : (x : Primary) → Within (primary_alone x) (after_primary x)
+pub alone_on : (x : Primary) → Within (primary_alone x) (after_primary x)
 alone_on x = within_right (taken (λ next opens. operand_takes next opens edge.nowhere (t.primary x))) (primary_alone x)
 
 module _ {here : ExprReaders} {nodes : g.ExprNodes} (N : ClosedRead here nodes) (D : NamesDot nodes.type) where

@@ -1,0 +1,5 @@
+use Rattle.laws_stmt.proofs.Jumps.{jumps_at}
+use Rattle.laws_stmt.proofs.jumps_read.Goals as goal
+
+pub returns : goal.returns
+returns c = jumps_at
