@@ -1,0 +1,4 @@
+// The names of natives.
+#![tactic(auto)]
+
+pub mod name;

@@ -1,0 +1,7 @@
+// The steps that natives take.
+#![tactic(auto)]
+
+pub mod length;
+pub mod steps;
+#[cfg(test)]
+mod tests;
