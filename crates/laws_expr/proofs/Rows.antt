@@ -1,5 +1,5 @@
 -- The rows of the grammar's table: each shape has one law.
-use Rattle.std.proofs.Common.{◌≡◌, ℕ, suc, ◌<◌, Bool, true, false, not, List, [], ◌∷◌, inl, inr, refl, ap, sym, ◌∙◌}
+use Rattle.std.proofs.Common.{◌≡◌, ℕ, suc, ◌<◌, Bool, true, false, not, List, [], ◌∷◌, inl, inr, refl, ap, sym, subst, ◌∙◌}
 use Rattle.dart_token.specs.declared.token.Token.{Token}
 use Rattle.dart_token.specs.declared.sign.Sign.{Sign}
 use Rattle.dart_token.specs.declared.sign.Sign.TheVariants as s
@@ -16,7 +16,7 @@ use Rattle.grammar_laws.specs.Laws.{Laws}
 use Rattle.grammar_laws.proofs.Codes.{apart, clash}
 use Rattle.dart_syntax.specs.Phrases.{Phrase}
 use Rattle.dart_syntax.specs.Leaves as l
-use Rattle.dart_syntax.specs.Edges.{compares, repeats, leaves, opens_nothing, operand_takes}
+use Rattle.dart_syntax.specs.Edges.{compares, nowhere, repeats, leaves, opens_nothing, operand_takes}
 use Rattle.dart_syntax.specs.Expressions as g
 use Rattle.dart_syntax.specs.Levels.{level, sign_level}
 use Rattle.token_codes.specs.Codes.{class_of, sign_codes}
@@ -30,9 +30,11 @@ use Rattle.laws_expr.specs.Nexts.{Taking, nexts, after_operand}
 use Rattle.laws_expr.proofs.Behind.{alone}
 use Rattle.laws_expr.proofs.Open.{OpenLaws, Settled}
 use Rattle.laws_expr.proofs.Edges.{at, codes_at, others_apart}
-use Rattle.laws_expr.proofs.Chain.{half_operand, chain_laws}
+use Rattle.laws_expr.proofs.Chain.{half_operand, chain_laws, operand_settled, node_settled}
+use Rattle.laws_expr.proofs.Tails.{last_leaves}
 use Rattle.laws_expr.proofs.Once.{once_laws}
 use Rattle.laws_expr.proofs.Shifts.{shift_laws}
+use Rattle.laws_expr.proofs.Shifts as sh
 use Rattle.laws_expr.proofs.Relational.{relational_laws}
 
 -- these signs are one row of the table of what goes on, and bind alike
@@ -101,6 +103,17 @@ module _ {n : ℕ} (inner : ExprReaders) (nodes : g.ExprNodes) {here lower : Rea
   unfolding row_over
   chained_laws sign more row is again O = chain_laws (sign_level sign) n (sign ∷ more) row is.others is.own is.here is.apart_alone again (one_of_reads (sign ∷ more) is.distinct) is.leveled O.above lower O.below O.down O.up O.rise O.rises
 
+  -- a `>` behind such a row is given as a half, or stopped before, where that holds of its operands
+  pub chained_settled : (sign : Sign) (more : List Sign) (row : ℕ) (is : IsRow (sign ∷ more) (sign_level sign) row) (again : repeats (sign_level sign) ≡ true)
+      (O : Operands n (sign_level sign) here lower F U (EitherFit U nodes.bare.Fits) front ufront (Either ufront nodes.bare.front) first ufirst) (next : ℕ) → next < nowhere →
+      ((x : Operand) → U x → leaves next x ≡ true → Settled O.below x) → ((x : Operand) → F x → leaves next x ≡ true → Settled O.above x) →
+      (x : Operand) → EitherFit F (g.row_over (g.chained sign more) nodes (operands U ufront)).Fits x → leaves next x ≡ true → Settled (chained_laws sign more row is again O) x
+  unfolding chained_laws row_over
+  chained_settled sign more row is again O next lt low high x (inl fits) left = operand_settled (sign_level sign) n (sign ∷ more) row is.others is.own is.here is.apart_alone again (one_of_reads (sign ∷ more) is.distinct) is.leveled O.above lower O.below O.down O.up O.rise O.rises x fits (high x fits left)
+  chained_settled sign more row is again O next lt low high x (inr ((y, all), ((d, on), some), e)) left =
+      subst (Settled (chained_laws sign more row is again O)) e (node_settled (sign_level sign) n (sign ∷ more) row is.others is.own is.here is.apart_alone again (one_of_reads (sign ∷ more) is.distinct) is.leveled O.above lower O.below O.down O.up O.rise O.rises (λ z. leaves next z) low y all d on some
+      (last_leaves next lt y all some.0 (subst (λ z. leaves next z ≡ true) (sym e) left)))
+
   -- and without it
   pub logical_laws : (sign : Sign) (row : ℕ) → IsRow (sign ∷ []) (sign_level sign) row → repeats (sign_level sign) ≡ true →
       Operands n (sign_level sign) here lower F U U front ufront ufront first ufirst →
@@ -121,6 +134,15 @@ module _ {n : ℕ} (inner : ExprReaders) (nodes : g.ExprNodes) {here lower : Rea
       OpenLaws (row_over n inner g.shifts here lower) operand_tokens (EitherFit F (g.row_over g.shifts nodes (operands U ufront)).Fits) (Either front (g.row_over g.shifts nodes (operands U ufront)).front) first (after_operand (sign_level s.ShiftLeft)) (half_operand (sign_level s.ShiftLeft))
   unfolding row_over
   shift_row_laws O decide decide_low = shift_laws n O.above decide lower O.below decide_low O.down O.up O.rise O.rises
+
+  pub shift_settled : (O : Operands n (sign_level s.ShiftLeft) here lower F U (EitherFit U nodes.bare.Fits) front ufront (Either ufront nodes.bare.front) first ufirst)
+      (decide : (x : Operand) → F x → leaves (sign_level s.ShiftLeft) x ≡ true → Settled O.above x) (decide_low : (x : Operand) → U x → leaves (sign_level s.ShiftLeft) x ≡ true → Settled O.below x) (next : ℕ) → next < nowhere →
+      ((x : Operand) → U x → leaves next x ≡ true → Settled O.below x) → ((x : Operand) → F x → leaves next x ≡ true → Settled O.above x) →
+      (x : Operand) → EitherFit F (g.row_over g.shifts nodes (operands U ufront)).Fits x → leaves next x ≡ true → Settled (shift_row_laws O decide decide_low) x
+  unfolding shift_row_laws row_over
+  shift_settled O decide decide_low next lt low high x (inl fits) left = sh.operand_settled n O.above decide lower O.below decide_low O.down O.up O.rise O.rises x fits (high x fits left)
+  shift_settled O decide decide_low next lt low high x (inr ((y, all), ((d, on), some), e)) left =
+      subst (Settled (shift_row_laws O decide decide_low)) e (sh.node_settled n O.above decide lower O.below decide_low O.down O.up O.rise O.rises (λ z. leaves next z) low y all d on some (last_leaves next lt y all some.0 (subst (λ z. leaves next z ≡ true) (sym e) left)))
 
 -- comparisons, likewise; their operands begin as any operand does, and `super` alone is never tested or cast
 module _ {n : ℕ} (inner : ExprReaders) (nodes : g.ExprNodes) {here lower : Reader Token (Open Operand)} {F U : Operand → Type 0} {front ufront : Front Token} {first : List ℕ} where

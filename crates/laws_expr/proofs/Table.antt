@@ -1,5 +1,5 @@
 -- The rows of the grammar's table at a depth: each over the row before it, and over the rows one node less deep.
-use Rattle.std.proofs.Common.{◌≡◌, ℕ, zero, suc, ◌-◌, ◌<◌, Bool, true, false, not, List, [], ◌∷◌, ◌+◌, ◌∙◌, inl, inr, refl, ap, sym, arith}
+use Rattle.std.proofs.Common.{◌≡◌, ℕ, zero, suc, ◌-◌, ◌<◌, ◌⊎◌, Bool, true, false, not, List, [], ◌∷◌, ◌+◌, ◌∙◌, inl, inr, refl, ap, sym, arith}
 use Rattle.dart_token.specs.declared.token.Token.{Token}
 use Rattle.dart_token.specs.declared.sign.Sign.TheVariants as s
 use Rattle.dart_tree.specs.Types.{TypeNode}
@@ -11,7 +11,7 @@ use Rattle.grammar_laws.specs.Fronts.{Either, EitherFit, GoodFit}
 use Rattle.grammar_laws.specs.Laws.{Laws}
 use Rattle.dart_syntax.specs.Phrases.{Phrase}
 use Rattle.dart_syntax.specs.Agreement.{Agrees, section_tokens}
-use Rattle.dart_syntax.specs.Edges.{compares, question, leaves, opens_nothing, operand_takes}
+use Rattle.dart_syntax.specs.Edges.{compares, nowhere, question, leaves, opens_nothing, operand_takes}
 use Rattle.dart_syntax.specs.Expressions as g
 use Rattle.dart_syntax.specs.Levels.{sign_level}
 use Rattle.dart_syntax.specs.Statements as gs
@@ -29,10 +29,10 @@ use Rattle.syntax_measures.proofs.Grows.{grows_walk}
 use Rattle.syntax_measures.proofs.WalkLevels.{each_row_plain, walk_row}
 use Rattle.laws_type.specs.Nexts.{after_type}
 use Rattle.laws_expr.specs.Nexts.{after_operand, after_without}
-use Rattle.laws_expr.proofs.Open.{OpenLaws, Settled, open_restated}
+use Rattle.laws_expr.proofs.Open.{OpenLaws, Settled, open_restated, restated_settled}
 use Rattle.laws_expr.proofs.Chain.{half_operand}
 use Rattle.laws_expr.proofs.Once.{half_without, conditional_laws}
-use Rattle.laws_expr.proofs.Rows.{Operands, operands, products, sums, conjunctions, exclusions, disjunctions, equalities, both_hold, one_holds, chained_laws, logical_laws, single_laws, shift_row_laws, comparison_laws}
+use Rattle.laws_expr.proofs.Rows.{Operands, operands, products, sums, conjunctions, exclusions, disjunctions, equalities, both_hold, one_holds, chained_laws, chained_settled, logical_laws, single_laws, shift_row_laws, shift_settled, comparison_laws}
 use Rattle.laws_expr.proofs.Depths.{row_of, bare_of, RowFits, row_front, down_at, up_at, rise_at, row_down, row_up, row_rise}
 use Rattle.laws_expr.proofs.Rising.{rising_at, bare_rises_at, not_bare_at, bare_at}
 
@@ -215,38 +215,82 @@ module _ (n : ℕ) where
         Operands (suc n) loose (read i) ((stage n).levels.row i) (row_of (suc n) i).Fits (row_of n i).Fits (row_of n i).Fits (row_of (suc n) i).front (row_of n i).front (row_of n i).front operand_first operand_first
     plain_operands i loose lt above below = record { above = above; below = below; down = row_down n i; up = row_up n i; rise = row_rise n i; rises = λ x fits. rising_at (suc n) i x fits loose opens_nothing lt }
 
-    pub r1 : RowLaws 1 11
-    unfolding rows_over
-    r1 = open_restated (chained_laws (stage n).nodes.exprs (nodes_at n) s.Star (s.Slash ∷ s.TildeSlash ∷ s.Percent ∷ []) 12 products refl (operands_at 0 11 (omega arith) r0 (lower 0))) (next_forth 0) (next_back 0) (next_out 0) (next_into 0)
+    -- a `>` behind an operand that leaves shifts, or comparisons, is read as a half with it, or stopped before
+    abbrev Asked : ℕ → Type 0
+    Asked next = (next ≡ 9) ⊎ (next ≡ 5)
 
-    pub r2 : RowLaws 2 10
-    unfolding rows_over
-    r2 = open_restated (chained_laws (stage n).nodes.exprs (nodes_at n) s.Plus (s.Minus ∷ []) 11 sums refl (operands_at 1 10 (omega arith) r1 (lower 1))) (next_forth 1) (next_back 1) (next_out 1) (next_into 1)
+    asked_below : (next : ℕ) → Asked next → next < nowhere
+    asked_below next (inl is) = omega (arith, is)
+    asked_below next (inr is) = omega (arith, is)
 
-    -- of a `>` behind an operand that leaves shifts it is known whether it is read with it
-    module _ (decide : (x : Operand) → RowFits (suc n) 2 x → leaves (sign_level s.ShiftLeft) x ≡ true → Settled r2 x) (decide_low : (x : Operand) → (row_of n 2).Fits x → leaves (sign_level s.ShiftLeft) x ≡ true → Settled (lower 2) x) where
+    -- the row that has these nodes besides
+    abbrev raised : (i from : ℕ) {q : Reader Token (Open Operand)} → OpenLaws q operand_tokens (EitherFit (RowFits (suc n) i) (node_at n i).Fits) (Either (row_front (suc n) i) (node_at n i).front) operand_first (after_operand from) (half_operand from) →
+        OpenLaws q operand_tokens (RowFits (suc n) (suc i)) (row_front (suc n) (suc i)) operand_first (after_operand from) (half_operand from)
+    raised i from P = open_restated P (next_forth i) (next_back i) (next_out i) (next_into i)
+
+    raised_settled : (i from : ℕ) {q : Reader Token (Open Operand)} (P : OpenLaws q operand_tokens (EitherFit (RowFits (suc n) i) (node_at n i).Fits) (Either (row_front (suc n) i) (node_at n i).front) operand_first (after_operand from) (half_operand from)) (x : Operand) → Settled P x → Settled (raised i from P) x
+    raised_settled i from P x settled = restated_settled P (next_forth i) (next_back i) (next_out i) (next_into i) x settled
+
+    module _ (settled0 : (next : ℕ) → Asked next → (x : Operand) → RowFits (suc n) 0 x → leaves next x ≡ true → Settled r0 x)
+        (settled_low : (i next : ℕ) → Asked next → (x : Operand) → (row_of n i).Fits x → leaves next x ≡ true → Settled (lower i) x) where
+      pub r1 : RowLaws 1 11
+      unfolding rows_over
+      r1 = raised 0 11 (chained_laws (stage n).nodes.exprs (nodes_at n) s.Star (s.Slash ∷ s.TildeSlash ∷ s.Percent ∷ []) 12 products refl (operands_at 0 11 (omega arith) r0 (lower 0)))
+
+      pub settled1 : (next : ℕ) → Asked next → (x : Operand) → RowFits (suc n) 1 x → leaves next x ≡ true → Settled r1 x
+      unfolding rows_over r1
+      settled1 next asked x fits left = raised_settled 0 11 (chained_laws (stage n).nodes.exprs (nodes_at n) s.Star (s.Slash ∷ s.TildeSlash ∷ s.Percent ∷ []) 12 products refl (operands_at 0 11 (omega arith) r0 (lower 0))) x
+          (chained_settled (stage n).nodes.exprs (nodes_at n) s.Star (s.Slash ∷ s.TildeSlash ∷ s.Percent ∷ []) 12 products refl (operands_at 0 11 (omega arith) r0 (lower 0)) next (asked_below next asked) (λ y. settled_low 0 next asked y) (λ y. settled0 next asked y) x (next_back 0 x fits) left)
+
+      pub r2 : RowLaws 2 10
+      unfolding rows_over
+      r2 = raised 1 10 (chained_laws (stage n).nodes.exprs (nodes_at n) s.Plus (s.Minus ∷ []) 11 sums refl (operands_at 1 10 (omega arith) r1 (lower 1)))
+
+      pub settled2 : (next : ℕ) → Asked next → (x : Operand) → RowFits (suc n) 2 x → leaves next x ≡ true → Settled r2 x
+      unfolding rows_over r2
+      settled2 next asked x fits left = raised_settled 1 10 (chained_laws (stage n).nodes.exprs (nodes_at n) s.Plus (s.Minus ∷ []) 11 sums refl (operands_at 1 10 (omega arith) r1 (lower 1))) x
+          (chained_settled (stage n).nodes.exprs (nodes_at n) s.Plus (s.Minus ∷ []) 11 sums refl (operands_at 1 10 (omega arith) r1 (lower 1)) next (asked_below next asked) (λ y. settled_low 1 next asked y) (λ y. settled1 next asked y) x (next_back 1 x fits) left)
+
       pub r3 : RowLaws 3 9
       unfolding rows_over
-      r3 = open_restated (shift_row_laws (stage n).nodes.exprs (nodes_at n) (operands_at 2 9 (omega arith) r2 (lower 2)) decide decide_low) (next_forth 2) (next_back 2) (next_out 2) (next_into 2)
+      r3 = raised 2 9 (shift_row_laws (stage n).nodes.exprs (nodes_at n) (operands_at 2 9 (omega arith) r2 (lower 2)) (λ y. settled2 9 (inl refl) y) (λ y. settled_low 2 9 (inl refl) y))
+
+      pub settled3 : (next : ℕ) → Asked next → (x : Operand) → RowFits (suc n) 3 x → leaves next x ≡ true → Settled r3 x
+      unfolding rows_over r3
+      settled3 next asked x fits left = raised_settled 2 9 (shift_row_laws (stage n).nodes.exprs (nodes_at n) (operands_at 2 9 (omega arith) r2 (lower 2)) (λ y. settled2 9 (inl refl) y) (λ y. settled_low 2 9 (inl refl) y)) x
+          (shift_settled (stage n).nodes.exprs (nodes_at n) (operands_at 2 9 (omega arith) r2 (lower 2)) (λ y. settled2 9 (inl refl) y) (λ y. settled_low 2 9 (inl refl) y) next (asked_below next asked) (λ y. settled_low 2 next asked y) (λ y. settled2 next asked y) x (next_back 2 x fits) left)
 
       pub r4 : RowLaws 4 8
       unfolding rows_over
-      r4 = open_restated (chained_laws (stage n).nodes.exprs (nodes_at n) s.Ampersand [] 9 conjunctions refl (operands_at 3 8 (omega arith) r3 (lower 3))) (next_forth 3) (next_back 3) (next_out 3) (next_into 3)
+      r4 = raised 3 8 (chained_laws (stage n).nodes.exprs (nodes_at n) s.Ampersand [] 9 conjunctions refl (operands_at 3 8 (omega arith) r3 (lower 3)))
+
+      pub settled4 : (next : ℕ) → Asked next → (x : Operand) → RowFits (suc n) 4 x → leaves next x ≡ true → Settled r4 x
+      unfolding rows_over r4
+      settled4 next asked x fits left = raised_settled 3 8 (chained_laws (stage n).nodes.exprs (nodes_at n) s.Ampersand [] 9 conjunctions refl (operands_at 3 8 (omega arith) r3 (lower 3))) x
+          (chained_settled (stage n).nodes.exprs (nodes_at n) s.Ampersand [] 9 conjunctions refl (operands_at 3 8 (omega arith) r3 (lower 3)) next (asked_below next asked) (λ y. settled_low 3 next asked y) (λ y. settled3 next asked y) x (next_back 3 x fits) left)
 
       pub r5 : RowLaws 5 7
       unfolding rows_over
-      r5 = open_restated (chained_laws (stage n).nodes.exprs (nodes_at n) s.Caret [] 8 exclusions refl (operands_at 4 7 (omega arith) r4 (lower 4))) (next_forth 4) (next_back 4) (next_out 4) (next_into 4)
+      r5 = raised 4 7 (chained_laws (stage n).nodes.exprs (nodes_at n) s.Caret [] 8 exclusions refl (operands_at 4 7 (omega arith) r4 (lower 4)))
+
+      pub settled5 : (next : ℕ) → Asked next → (x : Operand) → RowFits (suc n) 5 x → leaves next x ≡ true → Settled r5 x
+      unfolding rows_over r5
+      settled5 next asked x fits left = raised_settled 4 7 (chained_laws (stage n).nodes.exprs (nodes_at n) s.Caret [] 8 exclusions refl (operands_at 4 7 (omega arith) r4 (lower 4))) x
+          (chained_settled (stage n).nodes.exprs (nodes_at n) s.Caret [] 8 exclusions refl (operands_at 4 7 (omega arith) r4 (lower 4)) next (asked_below next asked) (λ y. settled_low 4 next asked y) (λ y. settled4 next asked y) x (next_back 4 x fits) left)
 
       pub r6 : RowLaws 6 6
       unfolding rows_over
-      r6 = open_restated (chained_laws (stage n).nodes.exprs (nodes_at n) s.Bar [] 7 disjunctions refl (operands_at 5 6 (omega arith) r5 (lower 5))) (next_forth 5) (next_back 5) (next_out 5) (next_into 5)
+      r6 = raised 5 6 (chained_laws (stage n).nodes.exprs (nodes_at n) s.Bar [] 7 disjunctions refl (operands_at 5 6 (omega arith) r5 (lower 5)))
 
-      -- and of one behind an operand that leaves comparisons
-      module _ (decide_compared : (x : Operand) → RowFits (suc n) 6 x → leaves compares x ≡ true → Settled r6 x)
-          (types : Laws class_of (stage n).nodes.exprs.type type_tokens nodes.type.Fits nodes.type.front type_first after_type false) where
+      pub settled6 : (next : ℕ) → Asked next → (x : Operand) → RowFits (suc n) 6 x → leaves next x ≡ true → Settled r6 x
+      unfolding rows_over r6
+      settled6 next asked x fits left = raised_settled 5 6 (chained_laws (stage n).nodes.exprs (nodes_at n) s.Bar [] 7 disjunctions refl (operands_at 5 6 (omega arith) r5 (lower 5))) x
+          (chained_settled (stage n).nodes.exprs (nodes_at n) s.Bar [] 7 disjunctions refl (operands_at 5 6 (omega arith) r5 (lower 5)) next (asked_below next asked) (λ y. settled_low 5 next asked y) (λ y. settled5 next asked y) x (next_back 5 x fits) left)
+
+      module _ (types : Laws class_of (stage n).nodes.exprs.type type_tokens nodes.type.Fits nodes.type.front type_first after_type false) where
         pub r7 : RowLaws 7 5
         unfolding rows_over
-        r7 = open_restated (comparison_laws (stage n).nodes.exprs (nodes_at n) (operands_at 6 5 (omega arith) r6 (lower 6)) decide_compared types (bare_at n) (not_bare_at n 6) (λ opens x fits. rises_at 6 5 x fits opens (omega arith))) (next_forth 6) (next_back 6) (next_out 6) (next_into 6)
+        r7 = raised 6 5 (comparison_laws (stage n).nodes.exprs (nodes_at n) (operands_at 6 5 (omega arith) r6 (lower 6)) (λ y. settled6 5 (inr refl) y) types (bare_at n) (not_bare_at n 6) (λ opens x fits. rises_at 6 5 x fits opens (omega arith)))
 
         pub r8 : PlainLaws 8 4
         unfolding rows_over

@@ -1,5 +1,5 @@
 -- Operators with their operands, that stand behind one another: with the half behind each operand or none, as they are read, and without.
-use Rattle.std.proofs.Common.{◌≡◌, Bool, false, if◌then◌else◌, List, [], ◌∷◌, Option, None, refl, ap}
+use Rattle.std.proofs.Common.{◌≡◌, ℕ, suc, max, ◌<◌, Bool, true, false, not, ◌&&◌, ◌||◌, if◌then◌else◌, List, [], ◌∷◌, Option, None, inl, inr, refl, ap}
 use Rattle.dart_base.specs.declared.place.Place.{Place}
 use Rattle.dart_token.specs.declared.token.Token.{Token}
 use Rattle.dart_tree.specs.declared.operator.Operator.{Operator}
@@ -9,9 +9,14 @@ use Rattle.dart_tree.specs.Tree.{Operand, Tails}
 use Rattle.dart_tree.specs.Tokens.{operand_tokens}
 use Rattle.grammar_laws.specs.Codes.{is_empty}
 use Rattle.grammar_laws.specs.Fronts.{BothFit, EachFit, both_spelling}
+use Rattle.grammar_laws.proofs.Codes.{clash, not_true, or_false}
+use Rattle.dart_syntax.specs.Edges.{nowhere, opens_nothing, repeats, binds_between, leaves, operand_takes, tails_take}
 use Rattle.dart_syntax.specs.Expressions as g
+use Rattle.dart_syntax.specs.Levels.{level}
 use Rattle.syntax_readers.specs.Combinators.{Open}
 use Rattle.syntax_readers.specs.Levels.{Item, to_tails}
+use Rattle.laws_expr.proofs.Sets.{not_false}
+use Rattle.laws_expr.proofs.Edges.{operand_moves}
 
 abbrev pub plain_spell : Operator × Operand → List Token
 plain_spell = both_spelling operator_tokens operand_tokens
@@ -62,3 +67,14 @@ pub last_fits : (Of : Operator → Type 0) (U : Operand → Type 0) (may : Opera
 last_fits Of U may x [] some fits = absurd cc
 last_fits Of U may x (y ∷ []) some fits = fits.0.1
 last_fits Of U may x (y ∷ z ∷ more) some fits = last_fits Of U may y.1 (z ∷ more) refl fits.2
+
+-- what the row leaves in no place its last operand leaves
+pub last_leaves : (next : ℕ) → next < nowhere → (x : Operand) (all : List (Operator × Operand)) → is_empty all ≡ false → leaves next (t.binary x (g.to_tails all)) ≡ true → leaves next (last_of x all) ≡ true
+unfolding operand_takes tails_take
+last_leaves next lt x [] some left = absurd cc
+last_leaves next lt x (y ∷ []) some left =
+    let from : ℕ = max nowhere (suc (level y.0)) in
+    let again : Bool = binds_between next opens_nothing nowhere (suc (level y.0)) && repeats (level y.0) in
+    let none : operand_takes next opens_nothing from y.1 ≡ false = (or_false again (operand_takes next opens_nothing from y.1) (or_false (binds_between next opens_nothing nowhere (level y.0)) (again || operand_takes next opens_nothing from y.1) (not_false (tails_take next opens_nothing nowhere (t.tail y.0 y.1 t.no_tails)) left)).1).1 in
+    ap not (not_true (operand_takes next opens_nothing nowhere y.1) (λ on. clash (operand_takes next opens_nothing from y.1) (operand_moves next opens_nothing y.1 nowhere from (inr (inl lt)) on) none))
+last_leaves next lt x (y ∷ z ∷ more) some left = last_leaves next lt y.1 (z ∷ more) refl left
