@@ -44,3 +44,5 @@ pub mod Bracketed
 pub mod Parentheses
 pub mod Depths
 pub mod Table
+pub mod Primary
+pub mod Heads

@@ -219,5 +219,9 @@ module _ {A : Type 0} {read : Reader Token (Open A)} {tokens : A → List Token}
   unfolding open_wider
   wider_settled on on_half x h = h
 
+  -- a larger set of what begins it
+  pub open_first : {first' : List ℕ} → Within first first' → OpenLaws read tokens F front first' next half
+  open_first sub = record { Fits = P.Fits; none_in = P.none_in; none_out = P.none_out; some_out = P.some_out; laws = wider P.laws sub (λ x fits. within_self (after_open next half x)) }
+
   pub open_strict_laws : Laws class_of (strict read) tokens F front first next false
   open_strict_laws = refit (strict_laws tokens half_tokens P.laws) (λ x fits. P.none_out x fits) (λ x fits. P.none_in x fits)

@@ -7,6 +7,7 @@ use Rattle.std.proofs.lemmas.List.{append-nil, length-append}
 use Rattle.dart_base.specs.declared.place.Place.{Place}
 use Rattle.dart_token.specs.declared.token.Token.{Token}
 use Rattle.dart_token.specs.declared.sign.Sign.TheVariants as s
+use Rattle.dart_tree.specs.LeafTokens.{sign_at}
 use Rattle.dart_tree.specs.Tree as t
 use Rattle.dart_tree.specs.Tree.{Expr, Primary, Body}
 use Rattle.dart_tree.specs.Tokens.{expr_tokens, primary_tokens, body_tokens, parameters_tokens}
@@ -36,8 +37,8 @@ use Rattle.laws_expr.proofs.Behind.{under_expr}
 use Rattle.laws_expr.proofs.Begun.{none_or}
 use Rattle.laws_expr.proofs.Bracketed.{Bracketed, parenthesized_of}
 use Rattle.laws_expr.proofs.Functions.{half_primary}
-use Rattle.laws_expr.proofs.Open.{OpenLaws, Whole, open_spelling, half_tokens, after_open, shut_laws}
-use Rattle.laws_expr.proofs.Primaries.{alone_on}
+use Rattle.laws_expr.proofs.Open.{OpenLaws, Whole, open_spelling, half_tokens, after_open, shut_laws, Settled, stops_before}
+use Rattle.laws_expr.proofs.Primaries.{alone_on, is_arrow, primary_closed}
 
 -- what begins the body of a function
 abbrev pub body_signs : List ℕ
@@ -194,3 +195,14 @@ module _ (here : ExprReaders) {expr : Phrase Expr} (E : Reads (strict here.expr)
     some_out = some_out;
     laws = reread (wider either_first (within_union (within_self (these s.LeftParenthesis)) (within_self (these s.LeftParenthesis))) (λ x fits. within_self (after_open after_primary half_primary x))) (λ ts. same_two ts (is_function ts) refl);
   }
+
+  -- a `>` behind a function literal is given as a half, or stopped before, and one behind an expression in parentheses is stopped before
+  pub literal_settled : (x : Primary) → F x → Settled L x → Settled parenthesis_laws x
+  unfolding parenthesis parenthesis_laws
+  literal_settled x fits (inl known) = inl (λ g. inl (known g))
+  literal_settled x fits (inr stays) = inr (λ g ts.
+      let list : List Token = spelled (x, None) ++ sign_at g s.Greater ∷ ts in
+      same_two list (is_function list) refl ∙ ap (λ (o : Outcome Token (Open Primary)). deeper o (shut (parenthesized (strict here.expr)) list)) (stays g ts))
+
+  pub parenthesized_settled : (x : Primary) → Parenthesized.Fits x → Settled parenthesis_laws x
+  parenthesized_settled x (parts, fits, is) = stops_before parenthesis_laws x (inr (parts, fits, is)) (primary_closed x (ap is_arrow (sym is)))

@@ -1,5 +1,5 @@
 -- The law of the reader of postfix expressions (ECMA-408, 16.31 Postfix Expressions), over that of primaries with selectors behind them.
-use Rattle.std.proofs.Common.{◌≡◌, ℕ, ◌<◌, true, false, List, [], ◌++◌, Option, None, Some, inl, inr, refl, ap, sym, ◌∙◌, subst, append_assoc, flat_map}
+use Rattle.std.proofs.Common.{◌≡◌, ℕ, ◌<◌, true, false, List, [], ◌++◌, Option, None, Some, inl, inr, refl, ap, sym, ◌∙◌, subst, append_assoc, flat_map, Bool, Ok, ◌∷◌, ◌&&◌}
 use Rattle.std.proofs.lemmas.List.{append-nil}
 use Rattle.dart_base.specs.declared.place.Place.{Place}
 use Rattle.dart_token.specs.declared.token.Token.{Token}
@@ -12,11 +12,11 @@ use Rattle.dart_tree.specs.Tree as t
 use Rattle.dart_tree.specs.Tree.{Operand, Primary, Selector}
 use Rattle.dart_tree.specs.Tokens.{operand_tokens, primary_tokens, selector_tokens, selectors_tokens}
 use Rattle.grammar_laws.specs.Codes.{has, Apart, Within, nowhere, given, after_followed}
-use Rattle.grammar_laws.specs.Readers.{Reader, followed}
+use Rattle.grammar_laws.specs.Readers.{Reader, followed, Outcome, and_then, when, starts}
 use Rattle.grammar_laws.specs.Depth.{is_below}
 use Rattle.grammar_laws.specs.Fronts.{Front, Joint, Either, EitherFit, BothFit, GoesOn, FollowedFit, Made, both_spelling, joined_spelling}
 use Rattle.grammar_laws.specs.Laws.{Laws}
-use Rattle.grammar_laws.proofs.Codes.{apart, apart_none, apart_union, and_both, and_true, clash, within_none, within_then, within_union, within_given, within_self, within_left, within_right}
+use Rattle.grammar_laws.proofs.Codes.{apart, apart_none, apart_union, and_both, and_true, clash, within_none, within_then, within_union, within_given, within_self, within_left, within_right, and_false}
 use Rattle.grammar_laws.proofs.Depth.{below_is, is_below_by}
 use Rattle.grammar_laws.proofs.Restated.{made_laws, refront}
 use Rattle.grammar_laws.proofs.Followed.{followed_laws}
@@ -31,7 +31,7 @@ use Rattle.token_codes.proofs.Leaves.{Distinct, one_of_reads}
 use Rattle.syntax_readers.specs.Combinators.{Open}
 use Rattle.syntax_readers.specs.Levels.{assigns, step_signs, steps_behind, stepped, postfix}
 use Rattle.laws_expr.specs.Nexts.{nexts, taken, stepping, operand_alone, primary_alone, after_operand}
-use Rattle.laws_expr.proofs.Open.{OpenLaws, open_spelling, half_tokens, after_open, bare, tree, no_some, tree_fits}
+use Rattle.laws_expr.proofs.Open.{OpenLaws, open_spelling, half_tokens, after_open, bare, tree, no_some, tree_fits, Settled, stops_before}
 use Rattle.laws_expr.proofs.Edges.{apart_all}
 use Rattle.laws_expr.proofs.Chain.{half_operand}
 use Rattle.laws_expr.proofs.Selected.{alone_super, after_selected, selected_on}
@@ -229,3 +229,27 @@ module _ (n : ℕ) {read : Reader Token (Open Operand)} {P D : Primary → Type 
     some_out = some_out;
     laws = refront (made_laws parts_laws stepped (open_spelling operand_tokens) (after_open (after_operand 12) (half_operand 12)) parts_said parts_on) out into;
   }
+
+  -- ---- a `>` behind it is given as a half, or stopped before, as behind what stands before the operator, and stopped before behind the operator
+
+  abbrev stopped : Operand → Bool → List Token → Outcome Token (Open Operand)
+  stopped x c mid = and_then (and_then (when c (one_of step_signs) mid) (λ o z. Ok (((x, None), o), z))) (λ y z. Ok (stepped y, z))
+
+  pub unstepped_settled : (x : Operand) → SFit x → Settled S x → Settled postfix_laws x
+  unfolding postfix postfix_laws class_of
+  unstepped_settled x fits (inl known) = inl (λ g. (((x, Some g), None), (known g, tt), refl))
+  unstepped_settled x fits (inr stays) = inr (λ g ts.
+      ap (λ (o : Outcome Token (Open Operand)). and_then (and_then o (λ a mid. and_then (when (steps_behind n a && starts class_of stepping mid) (one_of step_signs) mid) (λ b z. Ok ((a, b), z)))) (λ y z. Ok (stepped y, z))) (stays g ts)
+      ∙ ap (λ (c : Bool). stopped x c (sign_at g s.Greater ∷ ts)) (and_false (steps_behind n (x, None)) false refl))
+
+  short_closed : (x : Operand) → Short x → has (after_operand 12 x) (sign_code s.Greater) ≡ false
+  unfolding operand_takes operand_alone
+  short_closed x (parts, fits, is) = subst (λ (y : Operand). has (after_operand 12 y) (sign_code s.Greater) ≡ false) is refl
+
+  long_closed : (x : Operand) → Long x → has (after_operand 12 x) (sign_code s.Greater) ≡ false
+  unfolding operand_takes operand_alone
+  long_closed x (parts, fits, is) = subst (λ (y : Operand). has (after_operand 12 y) (sign_code s.Greater) ≡ false) is refl
+
+  pub stepped_settled : (x : Operand) → EitherFit Short Long x → Settled postfix_laws x
+  stepped_settled x (inl fits) = stops_before postfix_laws x (inr (inr (inl fits))) (short_closed x fits)
+  stepped_settled x (inr fits) = stops_before postfix_laws x (inr (inr (inr fits))) (long_closed x fits)

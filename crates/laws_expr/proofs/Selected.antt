@@ -6,7 +6,7 @@ use Rattle.dart_base.specs.declared.place.Place.{Place}
 use Rattle.dart_token.specs.declared.token.Token.{Token}
 use Rattle.dart_token.specs.declared.sign.Sign.TheVariants as s
 use Rattle.dart_token.specs.declared.word.Word.TheVariants as w
-use Rattle.dart_tree.specs.LeafTokens.{word_at}
+use Rattle.dart_tree.specs.LeafTokens.{word_at, sign_at}
 use Rattle.dart_tree.specs.Depth.{primary_height}
 use Rattle.dart_tree.specs.Types.{TypeNode}
 use Rattle.dart_tree.specs.Tree as t
@@ -35,7 +35,7 @@ use Rattle.syntax_readers.specs.Levels.{assigns, selected_of, selected, target}
 use Rattle.laws_expr.specs.Nexts.{Taking, nexts, taken, stepping, operand_alone, primary_alone, after_primary, after_operand}
 use Rattle.laws_expr.proofs.Begun.{front_starts, either_map}
 use Rattle.laws_expr.proofs.Known.{ClosedRead}
-use Rattle.laws_expr.proofs.Open.{OpenLaws, open_spelling, after_open, bare, tree, no_some, open_checked_laws, open_restated, open_wider, tree_fits}
+use Rattle.laws_expr.proofs.Open.{OpenLaws, open_spelling, after_open, bare, tree, no_some, open_checked_laws, open_restated, open_wider, tree_fits, Settled, stops_before}
 use Rattle.laws_expr.proofs.Edges.{apart_but, within_at, taken_moves, operand_moves}
 use Rattle.laws_expr.proofs.Chain.{half_operand, half_moves}
 use Rattle.laws_expr.proofs.Functions.{half_primary}
@@ -454,6 +454,21 @@ module _ (n : ℕ) {inner : ExprReaders} {nodes : g.ExprNodes} (N : ClosedRead i
     some_out = some_out;
     laws = reread (refront (made_laws parts_laws selected_of (open_spelling operand_tokens) (after_open after_selected (half_operand 12)) parts_said parts_on) out into) (λ ts. same_by ts (primary ts) refl);
   }
+
+  -- a `>` behind a primary alone is given as a half, or stopped before, as its reader does; behind selectors it is stopped before
+  pub alone_settled : (x : Primary) → P x → Settled Q x → Settled selected_laws (t.primary x)
+  unfolding selected selected_laws operand_tokens class_of
+  alone_settled x fits (inl known) = inl (λ g. (((x, Some g), None), (known g, refl), refl))
+  alone_settled x fits (inr stays) = inr (λ g ts.
+      ap (λ (o : Outcome Token (Open Primary)). given_by (r.selects n) (λ y. selectors inner) o) (stays g ts)
+      ∙ ap (λ (c : Bool). asked c (selectors inner) (x, None) (sign_at g s.Greater ∷ ts)) (not_true (has (r.selects n (x, None)) (sign_code s.Greater)) (λ h. let bad : has selector_first (sign_code s.Greater) ≡ true = (selects_within x).in_second (sign_code s.Greater) h in absurd cc)))
+
+  chosen_closed : (x : Operand) → Chosen x → has (after_selected x) (sign_code s.Greater) ≡ false
+  unfolding operand_takes
+  chosen_closed x (parts, fits, is) = subst (λ (y : Operand). has (after_selected y) (sign_code s.Greater) ≡ false) is refl
+
+  pub chosen_settled : (x : Operand) → Chosen x → Settled selected_laws x
+  chosen_settled x fits = stops_before selected_laws x (inr fits) (chosen_closed x fits)
 
   -- ---- targets
 
