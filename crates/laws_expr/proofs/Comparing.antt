@@ -1,6 +1,6 @@
 -- What may stand behind the first operand of a comparison (ECMA-408, 16.24 Relational Expressions, 16.34 Type Test, 16.35 Type Cast), and which
 -- operators come: an operator with its operand or its type, or, behind a half that was read, an operand alone.
-use Rattle.std.proofs.Common.{◌≡◌, ℕ, Bool, true, false, List, [], ◌∷◌, ◌++◌, Option, None, Some, ◌⊎◌, inl, inr, refl, ap, sym, subst, Ok, Err, arith}
+use Rattle.std.proofs.Common.{◌≡◌, ℕ, Bool, true, false, List, [], ◌∷◌, ◌++◌, Option, None, Some, ◌⊎◌, inl, inr, refl, ap, sym, ◌∙◌, subst, Ok, Err, arith}
 use Rattle.dart_base.specs.declared.place.Place.{Place}
 use Rattle.dart_token.specs.declared.token.Token.{Token}
 use Rattle.dart_token.specs.declared.sign.Sign.TheVariants as s
@@ -16,7 +16,7 @@ use Rattle.grammar_laws.specs.Codes.{has, Apart, Within, nowhere, given, after_o
 use Rattle.grammar_laws.specs.Readers.{Reader, always, mapped, option, Outcome, and_then, starts}
 use Rattle.grammar_laws.specs.Fronts.{Front, Joint, Either, EitherFit, BothFit, OptionFit, Made, both_spelling, option_spelling}
 use Rattle.grammar_laws.specs.Laws.{Laws}
-use Rattle.grammar_laws.proofs.Codes.{apart, apart_none, has_cases, has_left, has_right, has_given, given_has, inside, within_none, within_then, within_union, within_given, within_self, within_left, clash, not_true, within_right}
+use Rattle.grammar_laws.proofs.Codes.{apart, apart_none, has_cases, has_left, has_right, has_given, given_has, inside, within_none, within_then, within_union, within_given, within_self, within_left, clash, not_true, within_right, only_code}
 use Rattle.grammar_laws.proofs.Restated.{made_laws, mapped_laws, refit, refront, wider}
 use Rattle.grammar_laws.proofs.Combined.{both_laws, both_any_laws}
 use Rattle.grammar_laws.proofs.Chosen.{by_first_laws}
@@ -87,6 +87,18 @@ Lesser = (l.one_of (s.Less ∷ [])).Fits
 abbrev pub Rest : Operator → Type 0
 Rest = (l.one_of (s.Greater ∷ s.LessEqual ∷ s.GreaterEqual ∷ [])).Fits
 
+abbrev pub RestOf : Front Token
+RestOf = (l.one_of (s.Greater ∷ s.LessEqual ∷ s.GreaterEqual ∷ [])).front
+
+abbrev pub OthersOf : Front Token
+OthersOf = (l.one_of (s.LessEqual ∷ s.GreaterEqual ∷ [])).front
+
+pub rest_firsts : (u : Token) (ts : List Token) → RestOf (u ∷ ts) → has rest_codes (class_of u) ≡ true
+rest_firsts = (one_of_reads (s.Greater ∷ s.LessEqual ∷ s.GreaterEqual ∷ []) (apart refl, (apart refl, (apart refl, tt)))).firsts
+
+pub others_firsts : (u : Token) (ts : List Token) → OthersOf (u ∷ ts) → has others (class_of u) ≡ true
+others_firsts = (one_of_reads (s.LessEqual ∷ s.GreaterEqual ∷ []) (apart refl, (apart refl, tt))).firsts
+
 pub rest_level : (x : Operator) → Rest x → level x ≡ 5
 rest_level x (inl (place, fits, is)) = ap level (sym is)
 rest_level x (inr (inl (place, fits, is))) = ap level (sym is)
@@ -111,11 +123,11 @@ abbrev pub spelled : Behind → List Token
 spelled (inl y) = open_spelling operand_tokens y
 spelled (inr c) = compared_tokens c
 
-abbrev pub after_behind : Behind → List ℕ
-after_behind (inl y) = after_open (after_operand 6) (half_operand 6) y
-after_behind (inr (compared operator y)) = after_open (after_operand 6) (half_operand 6) y
-after_behind (inr (tested place bang of)) = after_type of
-after_behind (inr (cast place of)) = after_type of
+abbrev pub after_behind : (Operand → List ℕ) → Behind → List ℕ
+after_behind next (inl y) = after_open next (half_operand 6) y
+after_behind next (inr (compared operator y)) = after_open next (half_operand 6) y
+after_behind next (inr (tested place bang of)) = after_type of
+after_behind next (inr (cast place of)) = after_type of
 
 -- ---- the grammar's nodes
 
@@ -198,7 +210,7 @@ widen xs ys (u ∷ ts) sub e = sub.in_second (class_of u) e
 -- ---- the readers of what stands behind the first operand
 
 module _ {type : Reader Token TypeNode} {T : TypeNode → Type 0} {tfront : Front Token} (Types : Laws class_of type type_tokens T tfront type_first after_type false)
-    (lower : Reader Token (Open Operand)) {U : Operand → Type 0} {ufront : Front Token} (L : OpenLaws (whole lower) operand_tokens U ufront operand_first (after_operand 6) (half_operand 6)) where
+    (lower : Reader Token (Open Operand)) {U : Operand → Type 0} {ufront : Front Token} {next : Operand → List ℕ} (L : OpenLaws (whole lower) operand_tokens U ufront operand_first next (half_operand 6)) where
   abbrev pub Bangs : Option Place → Type 0
   Bangs = OptionFit Anything
 
@@ -263,7 +275,7 @@ module _ {type : Reader Token TypeNode} {T : TypeNode → Type 0} {tfront : Fron
   kinds_in (compared operator y) fits = inr (inr ((operator, y), (fits.0, fits.1), refl))
 
   abbrev pub after_compared : Compared → List ℕ
-  after_compared c = after_behind (inr c)
+  after_compared c = after_behind next (inr c)
 
   abbrev pub bang_first : List ℕ
   bang_first = these s.Bang ++ type_first
@@ -285,7 +297,7 @@ module _ {type : Reader Token TypeNode} {T : TypeNode → Type 0} {tfront : Fron
   cast_laws = made_laws (both_laws (word_reads w.As) Types (λ place fits. apart_none type_first)) (λ (x : Place × TypeNode). cast x.0 x.1) compared_tokens after_compared (λ x fits. refl) (λ x fits. within_self (after_type x.1))
 
   pub operators_laws : Laws class_of (made₂ compared (one_of comparing ~ whole lower)) compared_tokens (Made (λ (x : Operator × Open Operand). compared x.0 x.1) (BothFit (l.one_of comparing).Fits L.Fits)) operators_front (sign_codes comparing) after_compared false
-  operators_laws = refront (made_laws (both_laws (one_of_reads comparing distinct_comparing) L.laws (λ x fits. apart_none operand_first)) (λ (x : Operator × Open Operand). compared x.0 x.1) compared_tokens after_compared (λ x fits. refl) (λ x fits. within_self (after_open (after_operand 6) (half_operand 6) x.1))) (λ ts f. f) (λ ts f. f)
+  operators_laws = refront (made_laws (both_laws (one_of_reads comparing distinct_comparing) L.laws (λ x fits. apart_none operand_first)) (λ (x : Operator × Open Operand). compared x.0 x.1) compared_tokens after_compared (λ x fits. refl) (λ x fits. within_self (after_open next (half_operand 6) x.1))) (λ ts f. f) (λ ts f. f)
 
   pub compared_laws : Laws class_of (compared_with None type lower) compared_tokens ComparedFits compared_front (behind_first None) after_compared false
   unfolding compared_with
@@ -299,9 +311,9 @@ module _ {type : Reader Token TypeNode} {T : TypeNode → Type 0} {tfront : Fron
   inr_back (inl y) fits = absurd fits
   inr_back (inr c) fits = (c, fits, refl)
 
-  pub behind_laws : (h : Option Place) → Laws class_of (behind_reader h) spelled (BehindFits h) (behind_front h) (behind_first h) after_behind false
-  behind_laws (Some g) = mapped_laws L.laws (λ y. inl y) spelled after_behind (λ y fits. (fits, refl, within_self (after_open (after_operand 6) (half_operand 6) y))) (λ b fits. inl_back b g fits)
-  behind_laws None = mapped_laws compared_laws (λ c. inr c) spelled after_behind (λ c fits. (fits, refl, within_self (after_compared c))) (λ b fits. inr_back b fits)
+  pub behind_laws : (h : Option Place) → Laws class_of (behind_reader h) spelled (BehindFits h) (behind_front h) (behind_first h) (after_behind next) false
+  behind_laws (Some g) = mapped_laws L.laws (λ y. inl y) spelled (after_behind next) (λ y fits. (fits, refl, within_self (after_open next (half_operand 6) y))) (λ b fits. inl_back b g fits)
+  behind_laws None = mapped_laws compared_laws (λ c. inr c) spelled (after_behind next) (λ c fits. (fits, refl, within_self (after_compared c))) (λ b fits. inr_back b fits)
 
 -- ---- which operators may stand there
 
@@ -386,3 +398,34 @@ same_bool true true f g = refl
 same_bool false false f g = refl
 same_bool true false f g = sym (f refl)
 same_bool false true f g = g refl
+
+-- ---- what comes first behind an operand says what may stand there
+
+module _ (r l k c d : Bool) where
+  pub less_known : (ts : List Token) → starts class_of (mix r l k c d) ts ≡ true → starts class_of (these s.Less) ts ≡ true → (r ≡ true) × (l ≡ true)
+  less_known [] on is = absurd cc
+  less_known (u ∷ ts) on is = less_in r l k c d (ap (has (mix r l k c d)) (sym (only_code (class_of u) (sign_code s.Less) is)) ∙ on)
+
+  pub rest_known : (k ≡ true → c ≡ true) → (ts : List Token) → starts class_of (mix r l k c d) ts ≡ true → starts class_of rest_codes ts ≡ true → (r ≡ true) × (c ≡ true)
+  rest_known all [] on is = absurd cc
+  rest_known all (u ∷ ts) on is = let w = rest_in r l k c d (class_of u) is on in (w.0, elim w.1 [ inl e ↦ all e | inr e ↦ e ])
+
+  pub types_known : (ts : List Token) → starts class_of (mix r l k c d) ts ≡ true → starts class_of types ts ≡ true → (r ≡ true) × (d ≡ true)
+  types_known [] on is = absurd cc
+  types_known (u ∷ ts) on is = types_in r l k c d (class_of u) is on
+
+  pub less_go : r ≡ true → l ≡ true → (ts : List Token) → starts class_of (these s.Less) ts ≡ true → starts class_of (mix r l k c d) ts ≡ true
+  less_go low left [] is = absurd cc
+  less_go low left (u ∷ ts) is = ap (has (mix r l k c d)) (only_code (class_of u) (sign_code s.Less) is) ∙ less_on r l k c d low left
+
+  pub greater_go : r ≡ true → k ≡ true → (ts : List Token) → starts class_of (these s.Greater) ts ≡ true → starts class_of (mix r l k c d) ts ≡ true
+  greater_go low left [] is = absurd cc
+  greater_go low left (u ∷ ts) is = ap (has (mix r l k c d)) (only_code (class_of u) (sign_code s.Greater) is) ∙ greater_on r l k c d low left
+
+  pub others_go : r ≡ true → c ≡ true → (ts : List Token) → starts class_of others ts ≡ true → starts class_of (mix r l k c d) ts ≡ true
+  others_go low left [] is = absurd cc
+  others_go low left (u ∷ ts) is = others_on r l k c d (class_of u) low left is
+
+  pub types_go : r ≡ true → d ≡ true → (ts : List Token) → starts class_of types ts ≡ true → starts class_of (mix r l k c d) ts ≡ true
+  types_go low left [] is = absurd cc
+  types_go low left (u ∷ ts) is = types_on r l k c d (class_of u) low left is

@@ -1,6 +1,6 @@
 -- Targets and unary expressions at a depth (ECMA-408, 16.29 Unary Expressions, 16.31 Postfix Expressions, 16.32 Assignable Expressions), over primaries there, and over
 -- the operands one node less deep.
-use Rattle.std.proofs.Common.{◌≡◌, ℕ, zero, suc, ◌<◌, true, false, List, [], ◌∷◌, Some, flat_map, inl, inr, refl, ap, sym, ◌∙◌, arith}
+use Rattle.std.proofs.Common.{◌≡◌, ℕ, zero, suc, ◌<◌, true, false, List, [], ◌∷◌, Some, flat_map, inl, inr, refl, ap, sym, ◌∙◌, arith, subst}
 use Rattle.std.specs.List.{AllByRecursion}
 use Rattle.dart_base.specs.declared.place.Place.{Place}
 use Rattle.dart_token.specs.declared.token.Token.{Token}
@@ -19,7 +19,7 @@ use Rattle.grammar_laws.specs.Fronts.{Front, Joint, Several, Either, EitherFit, 
 use Rattle.grammar_laws.proofs.Codes.{clash, has_cases, inside}
 use Rattle.dart_syntax.specs.Phrases.{seq_if}
 use Rattle.dart_syntax.specs.Leaves as l
-use Rattle.dart_syntax.specs.Edges.{opens_dot, opens_nothing, primary_leaves}
+use Rattle.dart_syntax.specs.Edges.{opens_dot, opens_nothing, primary_leaves, leaves}
 use Rattle.dart_syntax.specs.Expressions as g
 use Rattle.dart_syntax.specs.Statements as gs
 use Rattle.dart_syntax.specs.Statements.{within}
@@ -32,14 +32,15 @@ use Rattle.syntax_readers.specs.Statements.{stage}
 use Rattle.syntax_measures.proofs.Laws.{within_no_deeper, within_fits_by_height, within_fronts_grow}
 use Rattle.laws_expr.specs.Nexts.{after_operand, after_primary}
 use Rattle.laws_expr.specs.Statements.{InsideReadAt}
-use Rattle.laws_expr.proofs.Open.{OpenLaws, open_restated, open_first}
+use Rattle.laws_expr.proofs.Open.{OpenLaws, open_restated, open_first, Settled, restated_settled, first_kept}
 use Rattle.laws_expr.proofs.Chain.{half_operand}
 use Rattle.laws_expr.proofs.Functions.{half_primary}
 use Rattle.laws_expr.proofs.Stages.{known_at}
 use Rattle.laws_expr.proofs.Selected.{alone_super, after_selected, selected_laws, target_laws}
 use Rattle.laws_expr.proofs.Postfix.{postfix_laws}
 use Rattle.laws_expr.proofs.Postfix as post
-use Rattle.laws_expr.proofs.Unary.{primary_first, unary_laws}
+use Rattle.laws_expr.proofs.Selected as sel
+use Rattle.laws_expr.proofs.Unary.{primary_first, unary_laws, unary_settled}
 use Rattle.laws_expr.proofs.Depths.{row_of, RowFits, row_front}
 use Rattle.laws_expr.proofs.Rising.{not_bare_at}
 use Rattle.laws_expr.proofs.Primary.{PrimaryFits, primary_front}
@@ -220,6 +221,19 @@ module _ (n : ℕ) where
     pub target_at : OpenLaws (target read) operand_tokens ((within (suc n)).levels.target).Fits ((within (suc n)).levels.target).front primary_first (after_operand 12) (half_operand 12)
     target_at = open_restated (target_laws (suc n) (known_at n Below) Q down up rise goes_on) target_forth target_back target_out target_into
 
+    -- a `>` behind them is given as a half, or stopped before, where that holds of primaries
+    module _ (next : ℕ) (known : (x : Primary) → PrimaryFits (suc n) x → leaves next (t.primary x) ≡ true → Settled Q x) where
+      selected_known : (x : Operand) → EitherFit (Made t.primary (PrimaryFits (suc n))) ChosenFits x → leaves next x ≡ true → Settled selected_at x
+      unfolding selected_at
+      selected_known x (inl (p, fits, is)) left = subst (Settled selected_at) is (sel.alone_settled (suc n) (known_at n Below) Q down up rise goes_on p fits (known p fits (subst (λ (z : Operand). leaves next z ≡ true) (sym is) left)))
+      selected_known x (inr fits) left = sel.chosen_settled (suc n) (known_at n Below) Q down up rise goes_on x fits
+
+      pub target_known : (x : Operand) → ((within (suc n)).levels.target).Fits x → leaves next x ≡ true → Settled target_at x
+      unfolding target_at selected_at
+      target_known x fits left =
+          let w = sel.target_out (suc n) (known_at n Below) Q down up rise goes_on x (target_back x fits) in
+          restated_settled (target_laws (suc n) (known_at n Below) Q down up rise goes_on) target_forth target_back target_out target_into x (sel.target_settled (suc n) (known_at n Below) Q down up rise goes_on x w.1 (selected_known x w.0 left))
+
     -- ---- unary expressions, over the operands one node less deep
 
     module _ (Lower : OpenLaws ((stage n).levels.row 0) operand_tokens (RowFits n 0) (row_front n 0) operand_first (after_operand 12) (half_operand 12))
@@ -291,3 +305,16 @@ module _ (n : ℕ) where
 
       pub unary_at : OpenLaws (unary (postfix (suc n) read) ((stage n).levels.row 0) (stage n).levels.target) operand_tokens (RowFits (suc n) 0) (row_front (suc n) 0) operand_first (after_operand 12) (half_operand 12)
       unary_at = open_first (open_restated (unary_laws (postfix_laws (suc n) selected_at down up rise) Lower Target Whole) forth back out into) (inside refl)
+
+      module _ (next : ℕ) (known : (x : Primary) → PrimaryFits (suc n) x → leaves next (t.primary x) ≡ true → Settled Q x) (low : (x : Operand) → RowFits n 0 x → leaves next x ≡ true → Settled Lower x)
+          (named : (x : Operand) → ((within n).levels.target).Fits x → leaves next x ≡ true → Settled Target x) (plain : (x : Operand) → (row_of n 0).Fits x → leaves next x ≡ true → Settled Whole x) where
+        postfix_known : (x : Operand) → PostfixFits x → leaves next x ≡ true → Settled (postfix_laws (suc n) selected_at down up rise) x
+        postfix_known x (inl fits) left = post.unstepped_settled (suc n) selected_at down up rise x (inl fits) (selected_known next known x (inl fits) left)
+        postfix_known x (inr (inl fits)) left = post.unstepped_settled (suc n) selected_at down up rise x (inr fits) (selected_known next known x (inr fits) left)
+        postfix_known x (inr (inr fits)) left = post.stepped_settled (suc n) selected_at down up rise x fits
+
+        pub unary_known : (x : Operand) → RowFits (suc n) 0 x → leaves next x ≡ true → Settled unary_at x
+        unfolding unary_at
+        unary_known x fits left =
+            let read = unary_laws (postfix_laws (suc n) selected_at down up rise) Lower Target Whole in
+            first_kept (open_restated read forth back out into) (inside refl) x (restated_settled read forth back out into x (unary_settled (postfix_laws (suc n) selected_at down up rise) Lower Target Whole next low plain named postfix_known x (back x fits) left))

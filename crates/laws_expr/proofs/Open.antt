@@ -223,5 +223,9 @@ module _ {A : Type 0} {read : Reader Token (Open A)} {tokens : A → List Token}
   pub open_first : {first' : List ℕ} → Within first first' → OpenLaws read tokens F front first' next half
   open_first sub = record { Fits = P.Fits; none_in = P.none_in; none_out = P.none_out; some_out = P.some_out; laws = wider P.laws sub (λ x fits. within_self (after_open next half x)) }
 
+  pub first_kept : {first' : List ℕ} (sub : Within first first') (x : A) → Settled P x → Settled (open_first sub) x
+  unfolding open_first
+  first_kept sub x h = h
+
   pub open_strict_laws : Laws class_of (strict read) tokens F front first next false
   open_strict_laws = refit (strict_laws tokens half_tokens P.laws) (λ x fits. P.none_out x fits) (λ x fits. P.none_in x fits)

@@ -1,11 +1,11 @@
 -- Primaries at a depth (ECMA-408, 16 Expressions), from the expressions and arguments there, and from the expressions, parameters and blocks one node less deep.
-use Rattle.std.proofs.Common.{ℕ, suc, false, List, inl, inr}
+use Rattle.std.proofs.Common.{ℕ, suc, false, List, inl, inr, ◌≡◌, true, None, ap, sym, subst, ◌∙◌, ◌||◌}
 use Rattle.dart_base.specs.declared.place.Place.{Place}
 use Rattle.dart_token.specs.declared.token.Token.{Token}
 use Rattle.dart_token.specs.declared.sign.Sign.TheVariants as s
 use Rattle.dart_token.specs.declared.word.Word.TheVariants as w
 use Rattle.dart_tree.specs.Tree as t
-use Rattle.dart_tree.specs.Tree.{Primary, Selector}
+use Rattle.dart_tree.specs.Tree.{Primary, Selector, Expr, Parameters}
 use Rattle.dart_tree.specs.Tokens.{expr_tokens, primary_tokens}
 use Rattle.grammar_laws.specs.Codes.{nowhere}
 use Rattle.grammar_laws.specs.Fronts.{Front, Either, EitherFit, Made}
@@ -22,14 +22,18 @@ use Rattle.syntax_readers.specs.Statements as rs
 use Rattle.syntax_readers.specs.Statements.{stage}
 use Rattle.laws_expr.specs.Nexts.{after_expr, after_primary}
 use Rattle.laws_expr.specs.Statements.{OthersReadAt, InsideReadAt, collection_first, objects_over, collections_within, functions_within}
-use Rattle.laws_expr.proofs.Open.{OpenLaws, open_restated}
-use Rattle.laws_expr.proofs.Functions.{half_expr, half_primary, body_laws, function_laws}
+use Rattle.laws_expr.proofs.Open.{OpenLaws, open_restated, Settled, stops_before, restated_settled}
+use Rattle.laws_expr.proofs.Functions.{half_expr, half_primary, body_laws, function_laws, function_settled}
 use Rattle.laws_expr.proofs.Enclosed.{within_encloses}
 use Rattle.laws_expr.proofs.Bracketed.{parameters_bracketed, parenthesized_bracketed, parenthesized_of}
-use Rattle.laws_expr.proofs.Parentheses.{Bodied, function_bodied, parenthesis_laws}
-use Rattle.laws_expr.proofs.Primaries.{primary_laws}
+use Rattle.laws_expr.proofs.Parentheses.{Bodied, function_bodied, parenthesis_laws, literal_settled, parenthesized_settled}
+use Rattle.laws_expr.proofs.Primaries.{primary_laws, is_arrow, primary_closed, primary_settled}
 use Rattle.laws_expr.proofs.Stages.{known_at, names_dot_at, productions_at}
 use Rattle.laws_expr.proofs.Unary.{primary_first}
+use Rattle.grammar_laws.proofs.Codes.{or_false}
+use Rattle.dart_syntax.specs.Edges.{dots, opens_nothing, leaves, binds_between, expr_takes, operand_takes}
+use Rattle.dart_syntax.specs.Edges as edge
+use Rattle.laws_expr.proofs.Sets.{not_false}
 
 -- `super` alone
 abbrev pub AloneFits : Primary → Type 0
@@ -130,3 +134,35 @@ module _ (n : ℕ) (Inside : InsideReadAt (suc n)) (Below : InsideReadAt n) (Oth
   pub primary_at : OpenLaws (primary (stage (suc n)).nodes.exprs) primary_tokens (PrimaryFits (suc n)) (primary_front (suc n)) primary_first after_primary half_primary
   unfolding collections_within
   primary_at = open_restated (primary_laws (known_at (suc n) Inside) (names_dot_at (suc n)) collection_at parenthesis_at) forth back out into
+
+  -- ---- a `>` behind a primary is given as a half, or stopped before, where that holds of the expressions behind `=>`
+
+  module _ (next : ℕ) (known : (x : Expr) → (within n).nodes.expr_nodes.expr.Fits x → expr_takes next opens_nothing dots x ≡ false → Settled E x) where
+    value_off : (given : Parameters) (arrow : Place) (value : Expr) → leaves next (t.primary (t.function_literal given (t.arrow_body arrow value None))) ≡ true → expr_takes next opens_nothing dots value ≡ false
+    unfolding operand_takes
+    value_off given arrow value left = (or_false (binds_between next opens_nothing edge.nowhere edge.nowhere) (expr_takes next opens_nothing dots value) (not_false (binds_between next opens_nothing edge.nowhere edge.nowhere || expr_takes next opens_nothing dots value) left)).1
+
+    function_known : (x : Primary) → (functions_within (suc n)).Fits x → leaves next (t.primary x) ≡ true → Settled function_at x
+    unfolding functions_within function_at rs.stage rs.nodes_over
+    function_known x ((given, body), (fits, inl ((arrow, value), (at, value_fits), same)), is) left =
+        let e : t.function_literal given (t.arrow_body arrow value None) ≡ x = ap (t.function_literal given) same ∙ is in
+        subst (Settled function_at) e (function_settled (stage n).nodes.exprs (within_agrees n).nodes.expr_nodes E Others.parameters Others.block given arrow value fits value_fits
+        (known value value_fits (value_off given arrow value (subst (λ (y : Primary). leaves next (t.primary y) ≡ true) (sym e) left))))
+    function_known x ((given, body), (fits, inr (block, block_fits, same)), is) left =
+        let e : t.function_literal given (t.block_body block) ≡ x = ap (t.function_literal given) same ∙ is in
+        stops_before function_at x ((given, body), (fits, inr (block, block_fits, same)), is) (primary_closed x (ap is_arrow (sym e)))
+
+    parenthesis_known : (x : Primary) → EitherFit (functions_within (suc n)).Fits (parenthesized_of (within (suc n)).nodes.expr_nodes.expr).Fits x → leaves next (t.primary x) ≡ true → Settled parenthesis_at x
+    unfolding parenthesis_at
+    parenthesis_known x (inl fits) left = literal_settled (stage (suc n)).nodes.exprs Inside.expr (within_agrees (suc n)).nodes.expr_nodes.expr (parenthesized_bracketed (within_encloses (suc n)).nodes.expr_nodes.expr) function_at function_ends x fits (function_known x fits left)
+    parenthesis_known x (inr fits) left = parenthesized_settled (stage (suc n)).nodes.exprs Inside.expr (within_agrees (suc n)).nodes.expr_nodes.expr (parenthesized_bracketed (within_encloses (suc n)).nodes.expr_nodes.expr) function_at function_ends x fits
+
+    collection_plain : (x : Primary) → (collections_within (suc n)).Fits x → is_arrow x ≡ false
+    unfolding collections_within
+    collection_plain x (inl (parts, fits, is)) = ap is_arrow (sym is)
+    collection_plain x (inr (parts, fits, is)) = ap is_arrow (sym is)
+
+    pub primary_known : (x : Primary) → PrimaryFits (suc n) x → leaves next (t.primary x) ≡ true → Settled primary_at x
+    unfolding primary_at collections_within
+    primary_known x fits left = restated_settled (primary_laws (known_at (suc n) Inside) (names_dot_at (suc n)) collection_at parenthesis_at) forth back out into x
+        (primary_settled (known_at (suc n) Inside) (names_dot_at (suc n)) collection_at parenthesis_at collection_plain next parenthesis_known x (back x fits) left)

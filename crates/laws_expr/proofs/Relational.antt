@@ -44,7 +44,8 @@ use Rattle.laws_expr.proofs.Edges.{apart_but, within_at}
 use Rattle.laws_expr.proofs.Chain.{half_of, half_operand, looser, looser_half, left_apart}
 use Rattle.laws_expr.proofs.Refined.{reads_half, half_read, never_left, sharp, sharp_within, sharp_apart, refined_laws}
 use Rattle.laws_expr.proofs.Guarded.{guarded, GuardedFit, guarded_front, guarded_laws}
-use Rattle.laws_expr.proofs.Comparing.{is_on, as_on, others, types, Lesser, Rest, comparing_level, Behind, spelled, after_behind, operators_front, tested_front, cast_front, compared_front, BehindFits, behind_front, behind_first, behind_reader, tested_laws, cast_laws, behind_laws, mix, rest_codes, less_in, rest_in, types_in, less_on, greater_on, others_on, types_on, item_node, is_node, as_node, join, item_on, left_off, type_closed, same_half, same_none, to_raw, same_bool, lesser_begins, rest_begins, word_begins, widen}
+use Rattle.grammar_laws.proofs.Cuts.{gave}
+use Rattle.laws_expr.proofs.Comparing.{is_on, as_on, others, types, Lesser, Rest, comparing_level, Behind, spelled, after_behind, operators_front, tested_front, cast_front, compared_front, BehindFits, behind_front, behind_first, behind_reader, tested_laws, cast_laws, behind_laws, mix, rest_codes, rest_in, less_on, greater_on, others_on, types_on, item_node, is_node, as_node, join, item_on, left_off, type_closed, same_half, same_none, to_raw, same_bool, lesser_begins, rest_begins, word_begins, widen, less_known, rest_known, types_known, less_go, greater_go, others_go, types_go, RestOf, OthersOf, rest_firsts, others_firsts}
 use Rattle.laws_expr.proofs.Sets.{swap, apart_when, given_off, not_false}
 
 -- ---- the row
@@ -102,7 +103,7 @@ module _ (n : ℕ)
   abbrev part : Option Place → Reader Token Behind
   part h = behind_reader Types lower L h
 
-  abbrev part_laws : (h : Option Place) → Laws class_of (behind_reader Types lower L h) spelled (BehindFits Types lower L h) (behind_front Types lower L h) (behind_first Types lower L h) after_behind false
+  abbrev part_laws : (h : Option Place) → Laws class_of (behind_reader Types lower L h) spelled (BehindFits Types lower L h) (behind_front Types lower L h) (behind_first Types lower L h) (after_behind (after_operand 6)) false
   part_laws h = behind_laws Types lower L h
 
   abbrev behind : Open Operand → Reader Token Behind
@@ -115,7 +116,7 @@ module _ (n : ℕ)
   PartsFront = JointBy (open_spelling operand_tokens) H.Fits always front (λ (x : Open Operand). guarded_front (part_laws x.1) (codes x))
 
   abbrev after_parts : Open Operand × Option Behind → List ℕ
-  after_parts = after_followed_by next_here always codes (λ x b. after_behind b)
+  after_parts = after_followed_by next_here always codes (λ x b. after_behind (after_operand 6) b)
 
   abbrev parts_reader : Reader Token (Open Operand × Option Behind)
   parts_reader = continued_by class_of never always codes here behind
@@ -153,45 +154,30 @@ module _ (n : ℕ)
   low x d = is_below_by operand_height n x (up x d).1
 
   -- the first token of what stands behind says what may stand there
-  less_known : (x : Operand) (h : Option Place) (ts : List Token) → h ≡ None → starts class_of (codes (x, h)) ts ≡ true → starts class_of (these s.Less) ts ≡ true → (room x ≡ true) × (leaves_less x ≡ true)
-  less_known x h [] none on is = absurd cc
-  less_known x h (u ∷ ts) none on is = less_in (room x) (leaves_less x) (alone_left x) (leaves 5 x) (typed x) (ap (has (mix (room x) (leaves_less x) (alone_left x) (leaves 5 x) (typed x))) (sym (only_code (class_of u) (sign_code s.Less) is)) ∙ subst (λ (k : Option Place). has (codes (x, k)) (class_of u) ≡ true) none on)
+  less_here : (x : Operand) (ts : List Token) → starts class_of (codes (x, None)) ts ≡ true → starts class_of (these s.Less) ts ≡ true → (room x ≡ true) × (leaves_less x ≡ true)
+  less_here x = less_known (room x) (leaves_less x) (alone_left x) (leaves 5 x) (typed x)
 
-  rest_known : (x : Operand) (h : Option Place) (ts : List Token) → h ≡ None → starts class_of (codes (x, h)) ts ≡ true → starts class_of rest_codes ts ≡ true → (room x ≡ true) × (leaves 5 x ≡ true)
-  rest_known x h [] none on is = absurd cc
-  rest_known x h (u ∷ ts) none on is =
-      let k = rest_in (room x) (leaves_less x) (alone_left x) (leaves 5 x) (typed x) (class_of u) is (subst (λ (k : Option Place). has (codes (x, k)) (class_of u) ≡ true) none on) in
-      (k.0, elim k.1 [ inl e ↦ (and_both (leaves 5 x) (not (keeps x)) e).0 | inr e ↦ e ])
+  rest_here : (x : Operand) (ts : List Token) → starts class_of (codes (x, None)) ts ≡ true → starts class_of rest_codes ts ≡ true → (room x ≡ true) × (leaves 5 x ≡ true)
+  rest_here x = rest_known (room x) (leaves_less x) (alone_left x) (leaves 5 x) (typed x) (λ e. (and_both (leaves 5 x) (not (keeps x)) e).0)
 
-  types_known : (x : Operand) (h : Option Place) (ts : List Token) → h ≡ None → starts class_of (codes (x, h)) ts ≡ true → starts class_of types ts ≡ true → (room x ≡ true) × ((leaves 5 x ≡ true) × (is_bare x ≡ false))
-  types_known x h [] none on is = absurd cc
-  types_known x h (u ∷ ts) none on is =
-      let k = types_in (room x) (leaves_less x) (alone_left x) (leaves 5 x) (typed x) (class_of u) is (subst (λ (k : Option Place). has (codes (x, k)) (class_of u) ≡ true) none on) in
+  types_here : (x : Operand) (ts : List Token) → starts class_of (codes (x, None)) ts ≡ true → starts class_of types ts ≡ true → (room x ≡ true) × ((leaves 5 x ≡ true) × (is_bare x ≡ false))
+  types_here x ts on is =
+      let k = types_known (room x) (leaves_less x) (alone_left x) (leaves 5 x) (typed x) ts on is in
       let v = and_both (leaves 5 x) (not (is_bare x)) k.1 in
       (k.0, (v.0, not_false (is_bare x) v.1))
 
-  half_known : (x : Operand) (g : Place) (ts : List Token) → starts class_of (codes (x, Some g)) ts ≡ true → (room x ≡ true) × (leaves 5 x ≡ true)
-  half_known x g [] on = absurd cc
-  half_known x g (u ∷ ts) on = and_both (room x) (leaves 5 x) (given_has (room x && leaves 5 x) operand_first (class_of u) on).0
+  half_here : (x : Operand) (g : Place) (ts : List Token) → starts class_of (codes (x, Some g)) ts ≡ true → (room x ≡ true) × (leaves 5 x ≡ true)
+  half_here x g [] on = absurd cc
+  half_here x g (u ∷ ts) on = and_both (room x) (leaves 5 x) (given_has (room x && leaves 5 x) operand_first (class_of u) on).0
 
   node_of : (x : Operand) (h : Option Place) (b : Behind) → H.Fits (x, h) → BehindFits Types lower L h b → starts class_of (codes (x, h)) (spelled b) ≡ true → Node (join ((x, h), Some b)).0
   node_of x None (inl y) fits known on = absurd known
   node_of x (Some g) (inr c) fits known on = absurd known
-  node_of x (Some g) (inl y) fits known on =
-      let k = half_known x g (spelled (inl y)) on in
-      inr (inl ((x, (o.Sign g s.Greater, y.0)), ((below x (tree_fits H (x, Some g) fits) k.0, k.1), (inl (g, tt, refl), tree_fits L y known)), refl))
-  node_of x None (inr (compared op y)) fits (inl less, known) on =
-      let k = less_known x None (spelled (inr (compared op y))) refl on (lesser_begins op (open_spelling operand_tokens y) (inl less)) in
-      inl ((x, (op, y.0)), ((below x (tree_fits H (x, None) fits) k.0, k.1), (inl less, tree_fits L y known)), refl)
-  node_of x None (inr (compared op y)) fits (inr rest, known) on =
-      let k = rest_known x None (spelled (inr (compared op y))) refl on (rest_begins op (open_spelling operand_tokens y) rest) in
-      inr (inl ((x, (op, y.0)), ((below x (tree_fits H (x, None) fits) k.0, k.1), (rest, tree_fits L y known)), refl))
-  node_of x None (inr (tested place bang of)) fits known on =
-      let k = types_known x None (spelled (inr (tested place bang of))) refl on (widen (this_word w.Is) types (spelled (inr (tested place bang of))) (inside refl) (word_begins w.Is place (option_spelling (sign_tokens s.Bang) bang ++ type_tokens of))) in
-      inr (inr (inl ((x, (place, (bang, of))), ((plain x (below x (tree_fits H (x, None) fits) k.0) k.1.1, k.1.0), (tt, (known.0, known.1))), refl)))
-  node_of x None (inr (cast place of)) fits known on =
-      let k = types_known x None (spelled (inr (cast place of))) refl on (widen (this_word w.As) types (spelled (inr (cast place of))) (inside refl) (word_begins w.As place (type_tokens of))) in
-      inr (inr (inr ((x, (place, of)), ((plain x (below x (tree_fits H (x, None) fits) k.0) k.1.1, k.1.0), (tt, known)), refl)))
+  node_of x (Some g) (inl y) fits known on = let k = half_here x g (spelled (inl y)) on in inr (inl ((x, (o.Sign g s.Greater, y.0)), ((below x (tree_fits H (x, Some g) fits) k.0, k.1), (inl (g, tt, refl), tree_fits L y known)), refl))
+  node_of x None (inr (compared op y)) fits (inl less, known) on = let k = less_here x (spelled (inr (compared op y))) on (lesser_begins op (open_spelling operand_tokens y) (inl less)) in inl ((x, (op, y.0)), ((below x (tree_fits H (x, None) fits) k.0, k.1), (inl less, tree_fits L y known)), refl)
+  node_of x None (inr (compared op y)) fits (inr rest, known) on = let k = rest_here x (spelled (inr (compared op y))) on (rest_begins op (open_spelling operand_tokens y) rest) in inr (inl ((x, (op, y.0)), ((below x (tree_fits H (x, None) fits) k.0, k.1), (rest, tree_fits L y known)), refl))
+  node_of x None (inr (tested place bang of)) fits known on = let k = types_here x (spelled (inr (tested place bang of))) on (widen (this_word w.Is) types (spelled (inr (tested place bang of))) (inside refl) (word_begins w.Is place (option_spelling (sign_tokens s.Bang) bang ++ type_tokens of))) in inr (inr (inl ((x, (place, (bang, of))), ((plain x (below x (tree_fits H (x, None) fits) k.0) k.1.1, k.1.0), (tt, (known.0, known.1))), refl)))
+  node_of x None (inr (cast place of)) fits known on = let k = types_here x (spelled (inr (cast place of))) on (widen (this_word w.As) types (spelled (inr (cast place of))) (inside refl) (word_begins w.As place (type_tokens of))) in inr (inr (inr ((x, (place, of)), ((plain x (below x (tree_fits H (x, None) fits) k.0) k.1.1, k.1.0), (tt, known)), refl)))
 
   none_out : (z : Operand) → Made join PartsFit (z, None) → EitherFit F Node z
   none_out z (((x, None), None), fits, e) = inl (subst F (ap tree e) (H.none_out x fits.0))
@@ -204,60 +190,63 @@ module _ (n : ℕ)
   some_out z g (((x, h), Some b), fits, e) = inr (subst Node (ap tree e) (node_of x h b fits.0 fits.1.1.0 fits.1.1.1))
 
   -- what may stand behind an operand that leaves it
-  less_go : (x : Operand) → D x → leaves_less x ≡ true → (ts : List Token) → starts class_of (these s.Less) ts ≡ true → starts class_of (codes (x, None)) ts ≡ true
-  less_go x d left [] is = absurd cc
-  less_go x d left (u ∷ ts) is = ap (has (codes (x, None))) (only_code (class_of u) (sign_code s.Less) is) ∙ less_on (room x) (leaves_less x) (alone_left x) (leaves 5 x) (typed x) (low x d) left
+  less_may : (x : Operand) → D x → leaves_less x ≡ true → (ts : List Token) → starts class_of (these s.Less) ts ≡ true → starts class_of (codes (x, None)) ts ≡ true
+  less_may x d left = less_go (room x) (leaves_less x) (alone_left x) (leaves 5 x) (typed x) (low x d) left
 
-  greater_go : (x : Operand) → D x → leaves 5 x ≡ true → keeps x ≡ false → (ts : List Token) → starts class_of (these s.Greater) ts ≡ true → starts class_of (codes (x, None)) ts ≡ true
-  greater_go x d left none [] is = absurd cc
-  greater_go x d left none (u ∷ ts) is = ap (has (codes (x, None))) (only_code (class_of u) (sign_code s.Greater) is) ∙ greater_on (room x) (leaves_less x) (alone_left x) (leaves 5 x) (typed x) (low x d) (and_true (leaves 5 x) (not (keeps x)) left (ap not none))
+  greater_may : (x : Operand) → D x → leaves 5 x ≡ true → keeps x ≡ false → (ts : List Token) → starts class_of (these s.Greater) ts ≡ true → starts class_of (codes (x, None)) ts ≡ true
+  greater_may x d left none = greater_go (room x) (leaves_less x) (alone_left x) (leaves 5 x) (typed x) (low x d) (and_true (leaves 5 x) (not (keeps x)) left (ap not none))
 
-  others_go : (x : Operand) → D x → leaves 5 x ≡ true → (ts : List Token) → starts class_of others ts ≡ true → starts class_of (codes (x, None)) ts ≡ true
-  others_go x d left [] is = absurd cc
-  others_go x d left (u ∷ ts) is = others_on (room x) (leaves_less x) (alone_left x) (leaves 5 x) (typed x) (class_of u) (low x d) left is
+  others_may : (x : Operand) → D x → leaves 5 x ≡ true → (ts : List Token) → starts class_of others ts ≡ true → starts class_of (codes (x, None)) ts ≡ true
+  others_may x d left = others_go (room x) (leaves_less x) (alone_left x) (leaves 5 x) (typed x) (low x d) left
 
-  types_go : (x : Operand) → E x → leaves 5 x ≡ true → (ts : List Token) → starts class_of types ts ≡ true → starts class_of (codes (x, None)) ts ≡ true
-  types_go x e left [] is = absurd cc
-  types_go x e left (u ∷ ts) is =
-      let d = of_plain x e in
-      types_on (room x) (leaves_less x) (alone_left x) (leaves 5 x) (typed x) (class_of u) (low x d.0) (and_true (leaves 5 x) (not (is_bare x)) left (ap not d.1)) is
+  types_may : (x : Operand) → E x → leaves 5 x ≡ true → (ts : List Token) → starts class_of types ts ≡ true → starts class_of (codes (x, None)) ts ≡ true
+  types_may x e left = let d = of_plain x e in types_go (room x) (leaves_less x) (alone_left x) (leaves 5 x) (typed x) (low x d.0) (and_true (leaves 5 x) (not (is_bare x)) left (ap not d.1))
 
   half_go : (x : Operand) (g : Place) → D x → leaves 5 x ≡ true → (ts : List Token) → starts class_of operand_first ts ≡ true → starts class_of (codes (x, Some g)) ts ≡ true
   half_go x g d left [] is = absurd cc
   half_go x g d left (u ∷ ts) is = has_given (room x && leaves 5 x) operand_first (class_of u) (and_true (room x) (leaves 5 x) (low x d) left) is
 
-  abbrev Made_of : Operand → Type 0
-  Made_of z = Made join PartsFit (z, None)
+  -- what goes on behind the parts, where this goes on behind an operand without a half
+  abbrev after_last : (Operand → List ℕ) → Open Operand × Option Behind → List ℕ
+  after_last next (x, None) = []
+  after_last next (x, Some b) = after_behind next b
+
+  -- the parts of a comparison with this half behind its last operand or none
+  abbrev Compares : Operand → Operator → Operand → Option Place → Type 0
+  Compares x op y k = (p : Open Operand × Option Behind) × PartsFit p × (join p ≡ (t.binary x (t.tail op y t.no_tails), k)) × ((next : Operand → List ℕ) → after_last next p ≡ after_open next (half_operand 6) (y, k))
 
   -- `>` with its operand, by whether the half was read
-  greater_in : (x : Operand) (g : Place) (y : Operand) → D x → leaves 5 x ≡ true → U y → (b : Bool) → keeps x ≡ b → Made_of (t.binary x (t.tail (o.Sign g s.Greater) y t.no_tails))
-  greater_in x g y d left fits true e =
-      (((x, Some g), Some (inl (y, None))), (half_read H x (decide x (up x d).0 left) e g, (refl, (L.none_in y fits, half_go x g d left (open_spelling operand_tokens (y, None)) (starts_open y fits)))), refl) where
-        starts_open : (y : Operand) → U y → starts class_of operand_first (open_spelling operand_tokens (y, None)) ≡ true
-        starts_open y fits = ap (starts class_of operand_first) (sym (append-nil (open_spelling operand_tokens (y, None)))) ∙ begins L.laws (y, None) [] (L.none_in y fits)
-  greater_in x g y d left fits false e =
-      (((x, None), Some (inr (compared (o.Sign g s.Greater) (y, None)))), (H.none_in x (up x d).0, (refl, ((inr (inl (g, tt, refl)), L.none_in y fits), greater_go x d left e (spelled (inr (compared (o.Sign g s.Greater) (y, None)))) (begins (sign_reads s.Greater) g (open_spelling operand_tokens (y, None)) tt)))), refl)
+  greater_in : (x : Operand) (g : Place) (y : Operand) (k : Option Place) → D x → leaves 5 x ≡ true → L.Fits (y, k) → (b : Bool) → keeps x ≡ b → Compares x (o.Sign g s.Greater) y k
+  greater_in x g y k d left fits true e =
+      (((x, Some g), Some (inl (y, k))), (half_read H x (decide x (up x d).0 left) e g, (refl, (fits, half_go x g d left (open_spelling operand_tokens (y, k)) starts_open))), refl, λ next. refl) where
+        starts_open : starts class_of operand_first (open_spelling operand_tokens (y, k)) ≡ true
+        starts_open = ap (starts class_of operand_first) (sym (append-nil (open_spelling operand_tokens (y, k)))) ∙ begins L.laws (y, k) [] fits
+  greater_in x g y k d left fits false e =
+      (((x, None), Some (inr (compared (o.Sign g s.Greater) (y, k)))), (H.none_in x (up x d).0, (refl, ((inr (inl (g, tt, refl)), fits), greater_may x d left e (spelled (inr (compared (o.Sign g s.Greater) (y, k)))) (begins (sign_reads s.Greater) g (open_spelling operand_tokens (y, k)) tt)))), refl, λ next. refl)
 
-  others_in : (x : Operand) (op : Operator) (y : Operand) → D x → leaves 5 x ≡ true → U y → (l.one_of (s.LessEqual ∷ s.GreaterEqual ∷ [])).Fits op → Made_of (t.binary x (t.tail op y t.no_tails))
-  others_in x op y d left fits known =
-      (((x, None), Some (inr (compared op (y, None)))), (H.none_in x (up x d).0, (refl, ((inr (inr known), L.none_in y fits), others_go x d left (spelled (inr (compared op (y, None)))) (begins (one_of_reads (s.LessEqual ∷ s.GreaterEqual ∷ []) (apart refl, (apart refl, tt))) op (open_spelling operand_tokens (y, None)) known)))), refl)
+  others_in : (x : Operand) (op : Operator) (y : Operand) (k : Option Place) → D x → leaves 5 x ≡ true → L.Fits (y, k) → (l.one_of (s.LessEqual ∷ s.GreaterEqual ∷ [])).Fits op → Compares x op y k
+  others_in x op y k d left fits known =
+      (((x, None), Some (inr (compared op (y, k)))), (H.none_in x (up x d).0, (refl, ((inr (inr known), fits), others_may x d left (spelled (inr (compared op (y, k)))) (begins (one_of_reads (s.LessEqual ∷ s.GreaterEqual ∷ []) (apart refl, (apart refl, tt))) op (open_spelling operand_tokens (y, k)) known)))), refl, λ next. refl)
 
-  rest_made : (x : Operand) (op : Operator) (y : Operand) → D x → leaves 5 x ≡ true → Rest op → U y → Made_of (t.binary x (t.tail op y t.no_tails))
-  rest_made x op y d left (inl (g, at, is)) fits = subst (λ (p : Operator). Made_of (t.binary x (t.tail p y t.no_tails))) is (greater_in x g y d left fits (keeps x) refl)
-  rest_made x op y d left (inr known) fits = others_in x op y d left fits known
+  rest_in_all : (x : Operand) (op : Operator) (y : Operand) (k : Option Place) → D x → leaves 5 x ≡ true → Rest op → L.Fits (y, k) → Compares x op y k
+  rest_in_all x op y k d left (inl (g, at, is)) fits = subst (λ (p : Operator). Compares x p y k) is (greater_in x g y k d left fits (keeps x) refl)
+  rest_in_all x op y k d left (inr known) fits = others_in x op y k d left fits known
 
-  none_in : (z : Operand) → EitherFit F Node z → Made_of z
+  less_in_all : (x : Operand) (op : Operator) (y : Operand) (k : Option Place) → D x → leaves_less x ≡ true → Lesser op → L.Fits (y, k) → Compares x op y k
+  less_in_all x op y k d left known fits =
+      (((x, None), Some (inr (compared op (y, k)))), (H.none_in x (up x d).0, (refl, ((only_less op known, fits), less_may x d left (spelled (inr (compared op (y, k)))) (lesser_begins op (open_spelling operand_tokens (y, k)) known)))), refl, λ next. refl) where
+        only_less : (op : Operator) → Lesser op → (l.one_of comparing).Fits op
+        only_less op (inl known) = inl known
+        only_less op (inr none) = absurd none
+
+  none_in : (z : Operand) → EitherFit F Node z → Made join PartsFit (z, None)
   none_in z (inl fits) = (((z, None), None), (H.none_in z fits, refl), refl)
-  none_in z (inr (inl ((x, (op, y)), ((d, left), (known, fits)), e))) =
-      (((x, None), Some (inr (compared op (y, None)))), (H.none_in x (up x d).0, (refl, ((less_in_all op known, L.none_in y fits), less_go x d left (spelled (inr (compared op (y, None)))) (lesser_begins op (open_spelling operand_tokens (y, None)) known)))), ap bare e) where
-        less_in_all : (op : Operator) → Lesser op → (l.one_of comparing).Fits op
-        less_in_all op (inl known) = inl known
-        less_in_all op (inr none) = absurd none
-  none_in z (inr (inr (inl ((x, (op, y)), ((d, left), (known, fits)), e)))) = subst Made_of e (rest_made x op y d left known fits)
+  none_in z (inr (inl ((x, (op, y)), ((d, left), (known, fits)), e))) = let p = less_in_all x op y None d left known (L.none_in y fits) in subst (λ (v : Operand). Made join PartsFit (v, None)) e (p.0, p.1, p.2)
+  none_in z (inr (inr (inl ((x, (op, y)), ((d, left), (known, fits)), e)))) = let p = rest_in_all x op y None d left known (L.none_in y fits) in subst (λ (v : Operand). Made join PartsFit (v, None)) e (p.0, p.1, p.2)
   none_in z (inr (inr (inr (inl ((x, (place, (bang, of))), ((e, left), (at, (banged, fits))), is))))) =
-      (((x, None), Some (inr (tested place bang of))), (H.none_in x (up x (of_plain x e).0).0, (refl, ((banged, fits), types_go x e left (spelled (inr (tested place bang of))) (widen (this_word w.Is) types (spelled (inr (tested place bang of))) (inside refl) (word_begins w.Is place (option_spelling (sign_tokens s.Bang) bang ++ type_tokens of)))))), ap bare is)
+      (((x, None), Some (inr (tested place bang of))), (H.none_in x (up x (of_plain x e).0).0, (refl, ((banged, fits), types_may x e left (spelled (inr (tested place bang of))) (widen (this_word w.Is) types (spelled (inr (tested place bang of))) (inside refl) (word_begins w.Is place (option_spelling (sign_tokens s.Bang) bang ++ type_tokens of)))))), ap bare is)
   none_in z (inr (inr (inr (inr ((x, (place, of)), ((e, left), (at, fits)), is))))) =
-      (((x, None), Some (inr (cast place of))), (H.none_in x (up x (of_plain x e).0).0, (refl, (fits, types_go x e left (spelled (inr (cast place of))) (widen (this_word w.As) types (spelled (inr (cast place of))) (inside refl) (word_begins w.As place (type_tokens of)))))), ap bare is)
+      (((x, None), Some (inr (cast place of))), (H.none_in x (up x (of_plain x e).0).0, (refl, (fits, types_may x e left (spelled (inr (cast place of))) (widen (this_word w.As) types (spelled (inr (cast place of))) (inside refl) (word_begins w.As place (type_tokens of)))))), ap bare is)
 
   -- ---- the tokens, and what goes on
 
@@ -302,33 +291,21 @@ module _ (n : ℕ)
 
   -- ---- the fronts
 
-  abbrev RestOf : Front Token
-  RestOf = (l.one_of (s.Greater ∷ s.LessEqual ∷ s.GreaterEqual ∷ [])).front
-
-  abbrev OthersOf : Front Token
-  OthersOf = (l.one_of (s.LessEqual ∷ s.GreaterEqual ∷ [])).front
-
-  rest_firsts : (u : Token) (ts : List Token) → RestOf (u ∷ ts) → has rest_codes (class_of u) ≡ true
-  rest_firsts = (one_of_reads (s.Greater ∷ s.LessEqual ∷ s.GreaterEqual ∷ []) (apart refl, (apart refl, (apart refl, tt)))).firsts
-
-  others_firsts : (u : Token) (ts : List Token) → OthersOf (u ∷ ts) → has others (class_of u) ≡ true
-  others_firsts = (one_of_reads (s.LessEqual ∷ s.GreaterEqual ∷ []) (apart refl, (apart refl, tt))).firsts
-
   abbrev Whole : Front Token
   Whole = Either front NodeFront
 
   less_out : (x : Operand) (ts more : List Token) → F x → ts ≡ operand_tokens x ++ more → starts class_of (codes (x, None)) more ≡ true → starts class_of (these s.Less) more ≡ true → Joint operator_tokens Lesser always (l.one_of (s.Less ∷ [])).front ufront more → Whole ts
-  less_out x ts more fits e on is f = let k = less_known x None more refl on is in inr (inl (inr (x, more, below x fits k.0, k.1, e, f)))
+  less_out x ts more fits e on is f = let k = less_here x more on is in inr (inl (inr (x, more, below x fits k.0, k.1, e, f)))
 
   rest_out : (x : Operand) (ts more : List Token) → F x → ts ≡ operand_tokens x ++ more → starts class_of (codes (x, None)) more ≡ true → starts class_of rest_codes more ≡ true → Joint operator_tokens Rest always RestOf ufront more → Whole ts
-  rest_out x ts more fits e on is f = let k = rest_known x None more refl on is in inr (inr (inl (inr (x, more, below x fits k.0, k.1, e, f))))
+  rest_out x ts more fits e on is f = let k = rest_here x more on is in inr (inr (inl (inr (x, more, below x fits k.0, k.1, e, f))))
 
   compared_out : (x : Operand) (ts more : List Token) → F x → ts ≡ operand_tokens x ++ more → starts class_of (codes (x, None)) more ≡ true → compared_front Types lower L more → Whole ts
   compared_out x ts more fits e on (inl f) =
-      let k = types_known x None more refl on (widen (this_word w.Is) types more (inside refl) (front_starts (codes (x, None)) (this_word w.Is) (tested_front Types lower L) (tested_laws Types lower L).firsts more f on)) in
+      let k = types_here x more on (widen (this_word w.Is) types more (inside refl) (front_starts (codes (x, None)) (this_word w.Is) (tested_front Types lower L) (tested_laws Types lower L).firsts more f on)) in
       inr (inr (inr (inl (inr (x, more, plain x (below x fits k.0) k.1.1, k.1.0, e, f)))))
   compared_out x ts more fits e on (inr (inl f)) =
-      let k = types_known x None more refl on (widen (this_word w.As) types more (inside refl) (front_starts (codes (x, None)) (this_word w.As) (cast_front Types lower L) (cast_laws Types lower L).firsts more f on)) in
+      let k = types_here x more on (widen (this_word w.As) types more (inside refl) (front_starts (codes (x, None)) (this_word w.As) (cast_front Types lower L) (cast_laws Types lower L).firsts more f on)) in
       inr (inr (inr (inr (inr (x, more, plain x (below x fits k.0) k.1.1, k.1.0, e, f)))))
   compared_out x ts more fits e on (inr (inr (inl (inl f)))) = less_out x ts more fits e on (front_starts (codes (x, None)) (these s.Less) (l.sign s.Less).front (sign_reads s.Less).firsts more f on) (inl (inl f))
   compared_out x ts more fits e on (inr (inr (inl (inr f)))) = rest_out x ts more fits e on (front_starts (codes (x, None)) rest_codes RestOf rest_firsts more f on) (inl f)
@@ -339,7 +316,7 @@ module _ (n : ℕ)
   out ts (inl f) = inl f
   out ts (inr ((x, h), more, fits, go, e, inl none)) = inl (subst front (sym (e ∙ ap (λ (m : List Token). open_spelling operand_tokens (x, h) ++ m) none ∙ append-nil (open_spelling operand_tokens (x, h)))) (H.laws.whole (x, h) fits))
   out ts (inr ((x, Some g), more, fits, go, e, inr (f, on))) =
-      let k = half_known x g more on in
+      let k = half_here x g more on in
       inr (inr (inl (inr (x, sign_at g s.Greater ∷ more, below x (tree_fits H (x, Some g) fits) k.0, k.1, e ∙ append_assoc (operand_tokens x) (half_tokens g) more, inr (o.Sign g s.Greater, more, inl (g, tt, refl), refl, refl, f)))))
   out ts (inr ((x, None), more, fits, go, e, inr (f, on))) = compared_out x ts more (H.none_out x fits) (e ∙ ap (λ (m : List Token). m ++ more) (append-nil (operand_tokens x))) on f
 
@@ -360,7 +337,7 @@ module _ (n : ℕ)
   greater_front x ts more d left e (inr (g, is)) true kept =
       inl (subst front (sym (e ∙ ap (λ (m : List Token). operand_tokens x ++ m) is)) (H.laws.whole (x, Some g) (half_read H x (decide x (up x d).0 left) kept g)))
   greater_front x ts more d left e (inr (g, is)) false kept =
-      plainly x ts more (up x d).0 e (inr (inr (inl (inr (inl (inr (g, is))))))) (inr (greater_go x d left kept more (ap (starts class_of (these s.Greater)) is ∙ begins (sign_reads s.Greater) g [] tt)))
+      plainly x ts more (up x d).0 e (inr (inr (inl (inr (inl (inr (g, is))))))) (inr (greater_may x d left kept more (ap (starts class_of (these s.Greater)) is ∙ begins (sign_reads s.Greater) g [] tt)))
 
   greater_then : (x : Operand) (g : Place) (ts rest : List Token) → D x → leaves 5 x ≡ true → ts ≡ operand_tokens x ++ (sign_at g s.Greater ∷ rest) → ufront rest → (b : Bool) → keeps x ≡ b → PartsFront ts
   greater_then x g ts rest d left e f true kept = inr ((x, Some g), rest, half_read H x (decide x (up x d).0 left) kept g, refl, e ∙ sym (append_assoc (operand_tokens x) (half_tokens g) rest), behind_it (none_or operand_first ufront L.laws.firsts rest f)) where
@@ -368,27 +345,27 @@ module _ (n : ℕ)
     behind_it (inl none) = inl none
     behind_it (inr on) = inr (f, half_go x g d left rest on)
   greater_then x g ts rest d left e f false kept =
-      plainly x ts (sign_at g s.Greater ∷ rest) (up x d).0 e (inr (inr (inr (o.Sign g s.Greater, rest, inr (inl (g, tt, refl)), refl, refl, f)))) (inr (greater_go x d left kept (sign_at g s.Greater ∷ rest) (begins (sign_reads s.Greater) g rest tt)))
+      plainly x ts (sign_at g s.Greater ∷ rest) (up x d).0 e (inr (inr (inr (o.Sign g s.Greater, rest, inr (inl (g, tt, refl)), refl, refl, f)))) (inr (greater_may x d left kept (sign_at g s.Greater ∷ rest) (begins (sign_reads s.Greater) g rest tt)))
 
   rest_front : (x : Operand) (ts more : List Token) → D x → leaves 5 x ≡ true → ts ≡ operand_tokens x ++ more → Joint operator_tokens Rest always RestOf ufront more → PartsFront ts
   rest_front x ts more d left e (inl (inl f)) = greater_front x ts more d left e f (keeps x) refl
-  rest_front x ts more d left e (inl (inr f)) = plainly x ts more (up x d).0 e (inr (inr (inl (inr (inr f))))) (either_map (others_go x d left more) (none_or others OthersOf others_firsts more f))
+  rest_front x ts more d left e (inl (inr f)) = plainly x ts more (up x d).0 e (inr (inr (inl (inr (inr f))))) (either_map (others_may x d left more) (none_or others OthersOf others_firsts more f))
   rest_front x ts more d left e (inr (op, rest, inl (g, at, same), go, is, f)) = greater_then x g ts rest d left (e ∙ ap (λ (m : List Token). operand_tokens x ++ m) (is ∙ ap (λ (p : Operator). operator_tokens p ++ rest) (sym same))) f (keeps x) refl
   rest_front x ts more d left e (inr (op, rest, inr known, go, is, f)) =
-      plainly x ts more (up x d).0 e (inr (inr (inr (op, rest, inr (inr known), refl, is, f)))) (inr (others_go x d left more (ap (starts class_of others) is ∙ begins (one_of_reads (s.LessEqual ∷ s.GreaterEqual ∷ []) (apart refl, (apart refl, tt))) op rest known)))
+      plainly x ts more (up x d).0 e (inr (inr (inr (op, rest, inr (inr known), refl, is, f)))) (inr (others_may x d left more (ap (starts class_of others) is ∙ begins (one_of_reads (s.LessEqual ∷ s.GreaterEqual ∷ []) (apart refl, (apart refl, tt))) op rest known)))
 
   into : (ts : List Token) → Whole ts → PartsFront ts
   into ts (inl f) = inl f
   into ts (inr (inl (inl f))) = inl (rise ts f)
-  into ts (inr (inl (inr (x, more, d, left, e, f)))) = let k = lesser_front more f in plainly x ts more (up x d).0 e (inr (inr k.0)) (either_map (less_go x d left more) k.1)
+  into ts (inr (inl (inr (x, more, d, left, e, f)))) = let k = lesser_front more f in plainly x ts more (up x d).0 e (inr (inr k.0)) (either_map (less_may x d left more) k.1)
   into ts (inr (inr (inl (inl f)))) = inl (rise ts f)
   into ts (inr (inr (inl (inr (x, more, d, left, e, f))))) = rest_front x ts more d left e f
   into ts (inr (inr (inr (inl (inl f))))) = inl (rise ts (begun ts f))
   into ts (inr (inr (inr (inl (inr (x, more, kind, left, e, f)))))) =
-      plainly x ts more (up x (of_plain x kind).0).0 e (inl f) (either_map (λ on. types_go x kind left more (widen (this_word w.Is) types more (inside refl) on)) (none_or (this_word w.Is) (tested_front Types lower L) (tested_laws Types lower L).firsts more f))
+      plainly x ts more (up x (of_plain x kind).0).0 e (inl f) (either_map (λ on. types_may x kind left more (widen (this_word w.Is) types more (inside refl) on)) (none_or (this_word w.Is) (tested_front Types lower L) (tested_laws Types lower L).firsts more f))
   into ts (inr (inr (inr (inr (inl f))))) = inl (rise ts (begun ts f))
   into ts (inr (inr (inr (inr (inr (x, more, kind, left, e, f)))))) =
-      plainly x ts more (up x (of_plain x kind).0).0 e (inr (inl f)) (either_map (λ on. types_go x kind left more (widen (this_word w.As) types more (inside refl) on)) (none_or (this_word w.As) (cast_front Types lower L) (cast_laws Types lower L).firsts more f))
+      plainly x ts more (up x (of_plain x kind).0).0 e (inr (inl f)) (either_map (λ on. types_may x kind left more (widen (this_word w.As) types more (inside refl) on)) (none_or (this_word w.As) (cast_front Types lower L) (cast_laws Types lower L).firsts more f))
 
   -- ---- the reader
 
@@ -479,3 +456,38 @@ module _ (n : ℕ)
   pub cast_settled : (x : Operand) (place : Place) (of : TypeNode) → AsNode (t.as_type x place of) → Settled relational_laws (t.as_type x place of)
   unfolding operand_takes operand_alone
   cast_settled x place of fits = stops_before relational_laws (t.as_type x place of) (inr (inr (inr (inr fits)))) (type_closed (opens_less of) (opens_dot of))
+
+  -- ---- a `>` behind the last operand of a comparison is given as a half, or stopped before, as behind that operand
+
+  module _ (asks_last : Operand → Bool) (settled : (x : Operand) → U x → asks_last x ≡ true → Settled L x) where
+    abbrev low_sharp : OpenLaws (whole lower) operand_tokens U ufront operand_first (sharp L asks_last settled) (half_operand 6)
+    low_sharp = record { Fits = L.Fits; none_in = L.none_in; none_out = L.none_out; some_out = L.some_out; laws = refined_laws L asks_last settled }
+
+    sharp_parts : Laws class_of parts_reader (joined_spelling (open_spelling operand_tokens) spelled) PartsFit PartsFront first (after_followed_by next_here always codes (λ x b. after_behind (sharp L asks_last settled) b)) false
+    sharp_parts = continued_by_laws (refined_laws H asks decide) (λ x fits. guarded_laws (behind_laws Types lower low_sharp x.1) (codes x)) never always (λ x e. absurd cc) codes_apart
+
+    stop : (x : Operand) (h : Option Place) (b : Behind) (y : Operand) → after_last (sharp L asks_last settled) ((x, h), Some b) ≡ sharp L asks_last settled y → asks_last y ≡ true → reads_half L y ≡ false → has (after_behind (sharp L asks_last settled) b) (sign_code s.Greater) ≡ false
+    stop x h b y at on none = ap (λ (xs : List ℕ). has xs (sign_code s.Greater)) at ∙ not_true (has (sharp L asks_last settled y) (sign_code s.Greater)) (λ k. (sharp_apart L asks_last settled y on none).never_both (sign_code s.Greater) k refl)
+
+    stays_read : (p : Open Operand × Option Behind) (z y : Operand) → PartsFit p → join p ≡ (z, None) → ((next : Operand → List ℕ) → after_last next p ≡ next y) → asks_last y ≡ true → reads_half L y ≡ false → (place : Place) (ts : List Token) →
+        relational n type here lower (open_spelling operand_tokens (z, None) ++ sign_at place s.Greater ∷ ts) ≡ Ok ((z, None), sign_at place s.Greater ∷ ts)
+    unfolding relational class_of
+    stays_read (x, None) z y known made after asked none place ts = let bad : after_last (λ (w : Operand). sign_code s.Less ∷ []) (x, None) ≡ sign_code s.Less ∷ [] = after (λ (w : Operand). sign_code s.Less ∷ []) in absurd cc
+    stays_read ((x, h), Some b) z y known made after asked none place ts =
+        let rest : List Token = sign_at place s.Greater ∷ ts in
+        let list : List Token = joined_spelling (open_spelling operand_tokens) spelled ((x, h), Some b) ++ rest in
+        ap (λ (m : List Token). relational n type here lower (m ++ rest)) (ap (open_spelling operand_tokens) (sym made) ∙ parts_said ((x, h), Some b) known)
+        ∙ same_by list (here list) refl
+        ∙ ap (λ (r : Outcome Token (Open Operand × Option Behind)). and_then r (λ v u. Ok (join v, u))) (sharp_parts.complete ((x, h), Some b) rest known (stop x h b y (after (sharp L asks_last settled)) asked none))
+        ∙ ap (λ (v : Open Operand). gave v rest) made
+
+    item_settled : (x : Operand) (op : Operator) (y : Operand) → ((k : Option Place) → L.Fits (y, k) → Compares x op y k) → U y → asks_last y ≡ true → Settled relational_laws (t.binary x (t.tail op y t.no_tails))
+    unfolding relational_laws
+    item_settled x op y parts fits asked = by_half (reads_half L y) refl where
+      by_half : (b : Bool) → reads_half L y ≡ b → Settled relational_laws (t.binary x (t.tail op y t.no_tails))
+      by_half true e = inl (λ g. let p = parts (Some g) (half_read L y (settled y fits asked) e g) in (p.0, p.1, p.2))
+      by_half false e = inr (λ g ts. let p = parts None (L.none_in y fits) in stays_read p.0 (t.binary x (t.tail op y t.no_tails)) y p.1 p.2 p.3 asked e g ts)
+
+    pub compared_settled : (x : Operand) (op : Operator) (y : Operand) → D x → ((leaves_less x ≡ true) × Lesser op) ⊎ ((leaves 5 x ≡ true) × Rest op) → U y → asks_last y ≡ true → Settled relational_laws (t.binary x (t.tail op y t.no_tails))
+    compared_settled x op y d (inl (left, known)) fits asked = item_settled x op y (λ k last. less_in_all x op y k d left known last) fits asked
+    compared_settled x op y d (inr (left, known)) fits asked = item_settled x op y (λ k last. rest_in_all x op y k d left known last) fits asked

@@ -35,7 +35,7 @@ use Rattle.syntax_readers.specs.Levels.{assigns, selected_of, selected, target}
 use Rattle.laws_expr.specs.Nexts.{Taking, nexts, taken, stepping, operand_alone, primary_alone, after_primary, after_operand}
 use Rattle.laws_expr.proofs.Begun.{front_starts, either_map}
 use Rattle.laws_expr.proofs.Known.{ClosedRead}
-use Rattle.laws_expr.proofs.Open.{OpenLaws, open_spelling, after_open, bare, tree, no_some, open_checked_laws, open_restated, open_wider, tree_fits, Settled, stops_before}
+use Rattle.laws_expr.proofs.Open.{OpenLaws, open_spelling, after_open, bare, tree, no_some, open_checked_laws, open_restated, open_wider, tree_fits, Settled, stops_before, checked_settled, restated_settled, wider_settled}
 use Rattle.laws_expr.proofs.Edges.{apart_but, within_at, taken_moves, operand_moves}
 use Rattle.laws_expr.proofs.Chain.{half_operand, half_moves}
 use Rattle.laws_expr.proofs.Functions.{half_primary}
@@ -479,10 +479,15 @@ module _ (n : ℕ) {inner : ExprReaders} {nodes : g.ExprNodes} (N : ClosedRead i
   target_in z (inl (x, fits, e), on) = inl (x, (fits, ap assigns e ∙ on), e)
   target_in z (inr ((x, (k, more)), fits, e), on) = inr ((x, (k, more)), (fits, ap assigns e ∙ on), e)
 
-  target_out : (z : Operand) → Targets z → GoodFit (EitherFit Plain Chosen) assigns z
+  pub target_out : (z : Operand) → Targets z → GoodFit (EitherFit Plain Chosen) assigns z
   target_out z (inl (x, (fits, on), e)) = (inl (x, fits, e), ap assigns (sym e) ∙ on)
   target_out z (inr ((x, (k, more)), (fits, on), e)) = (inr ((x, (k, more)), fits, e), ap assigns (sym e) ∙ on)
 
   pub target_laws : OpenLaws (target (selected n primary (selectors inner))) operand_tokens Targets (Either pfront selected_front) pfirst (after_operand 12) (half_operand 12)
   unfolding target
   target_laws = open_wider (open_restated (open_checked_laws selected_laws assigns) target_in target_out (λ ts f. f) (λ ts f. f)) (λ x fits. selected_on x) (λ x fits. within_self (half_operand 12 x))
+
+  pub target_settled : (x : Operand) → assigns x ≡ true → Settled selected_laws x → Settled target_laws x
+  unfolding target target_laws
+  target_settled x on settled = wider_settled (open_restated (open_checked_laws selected_laws assigns) target_in target_out (λ ts f. f) (λ ts f. f)) (λ x fits. selected_on x) (λ x fits. within_self (half_operand 12 x)) x
+      (restated_settled (open_checked_laws selected_laws assigns) target_in target_out (λ ts f. f) (λ ts f. f) x (checked_settled selected_laws assigns x on settled))
