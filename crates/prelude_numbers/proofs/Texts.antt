@@ -1,5 +1,5 @@
 -- The number of a name in a table without repetitions.
-use Rattle.std.proofs.Common.{◌≡◌, ℕ, zero, suc, ◌+◌, List, [], ◌∷◌, length, slice_get, Some, None, Bool, true, false, cond, bytes_eq, Contains, refl, sym, ap, ◌∙◌, arith}
+use Rattle.std.proofs.Common.{◌≡◌, ℕ, zero, suc, List, [], ◌∷◌, length, slice_get, Some, Bool, true, false, cond, bytes_eq, Contains, refl, sym, ap, ◌∙◌, arith}
 use Rattle.std.proofs.lemmas.Slice.Eq.{bytes_eq-Decides}
 use Rattle.dart_base.specs.Names.{AreDistinct}
 use Rattle.evaluation.specs.Prelude.{name_number}

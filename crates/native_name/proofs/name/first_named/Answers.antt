@@ -1,9 +1,9 @@
 use Rattle.std.proofs.Common.{◌≡◌, ◌∙◌, ◌+◌, ◌<◌, ℕ, List, length, sym, refl, true, false, cond, drop, get_or, Some, add-one}
-use Rattle.std.specs.Prelude.{find, ◌&&◌, bytes_eq}
+use Rattle.std.specs.Prelude.{find}
 use Rattle.std.proofs.Math.Seq.{drop-cons}
 use Rattle.dart_ir.specs.declared.native.NativeId.{NativeId}
 use Rattle.dart_ir.specs.declared.native.NativeId.TheVariants as n
-use Rattle.native_name.specs.Name.{is_named, class_text, member_text}
+use Rattle.native_name.specs.Name.{is_named}
 use Rattle.native_name.proofs.name.first_named.Goals as goal
 
 first_step : (natives : List NativeId) (class member : List ℕ) (i : ℕ) → i < length natives
