@@ -1,0 +1,7 @@
+// What the machine looks up in stacks of values and in a program.
+#![tactic(auto, using(crate::proofs::Listed::listed))]
+
+pub mod arguments;
+pub mod member;
+pub mod program;
+pub mod row;
