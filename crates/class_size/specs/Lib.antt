@@ -1,0 +1,4 @@
+pub mod Size
+pub mod Built
+-- means of proof
+pub mod Bound
