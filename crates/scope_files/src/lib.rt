@@ -1,0 +1,9 @@
+// Units from the files of a source, and from the texts of the language's libraries.
+#![tactic(auto)]
+
+pub mod check;
+pub mod law;
+pub mod reader;
+#[cfg(test)]
+mod tests;
+pub mod text;
