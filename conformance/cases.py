@@ -4,6 +4,7 @@ A case NAME is a file NAME.stdout, which holds the bytes that are due, and besid
     NAME.dart     the file that is run; where there is none, the words stand in NAME.args
     NAME.repeat   in place of NAME.dart: a number and a line feed, and then the bytes that NAME.dart has so many times
     NAME.files/   further files, which lie in the folder that the program runs in
+    NAME.copies   a number and a line feed, and then the bytes of each of so many further files f0.dart, f1.dart ..
     NAME.args     the words, one a line; without it they are `run` and `NAME.dart`, in erased/ `erase` and `NAME.dart`
     NAME.status   the status, where it isn't that of the case's folder (STATUS, below)
     NAME.output   a device that takes the output, in place of a comparison
@@ -22,7 +23,7 @@ NOT_BUILT = 125
 STATUS = {
     'examples': 0, 'runs': 0, 'erased': 0, 'warned': 1, 'usage': 2, 'refused': 3, 'uncaught': 4, 'fails-check': 5, 'limits': 6,
 }
-ENDINGS = ('.stdout', '.dart', '.repeat', '.files', '.args', '.status', '.output')
+ENDINGS = ('.stdout', '.dart', '.repeat', '.files', '.copies', '.args', '.status', '.output')
 
 
 def all_cases():
@@ -59,7 +60,7 @@ def has_source(case):
 
 def lay_out(case, folder):
     """Puts the files of the case into the folder."""
-    source, repeat, files = (beside(case, ending) for ending in ('.dart', '.repeat', '.files'))
+    source, repeat, files, copies = (beside(case, ending) for ending in ('.dart', '.repeat', '.files', '.copies'))
     if files.is_dir():
         shutil.copytree(files, folder, dirs_exist_ok=True)
     if source.exists():
@@ -67,6 +68,10 @@ def lay_out(case, folder):
     if repeat.exists():
         times, piece = repeat.read_bytes().split(b'\n', 1)
         (pathlib.Path(folder) / (case.name + '.dart')).write_bytes(int(times) * piece)
+    if copies.exists():
+        count, text = copies.read_bytes().split(b'\n', 1)
+        for number in range(int(count)):
+            (pathlib.Path(folder) / ('f%d.dart' % number)).write_bytes(text)
 
 
 def named(word, cases):

@@ -4,6 +4,8 @@ use Rattle.std.proofs.Common.{◌≡◌, ◌∙◌, sym, ap, refl, subst, ℕ, L
 use Rattle.dart_edge.specs.Files.{Files, file_of}
 use Rattle.dart_edge.specs.Writes.{IsPrefix, WrotePrefix}
 use Rattle.dart_tool.specs.declared.outcome.Outcome.{Outcome}
+use Rattle.dart_tool.specs.declared.program.FileRefusal.{FileRefusal}
+use Rattle.dart_tool.specs.declared.run.Printed.{Printed}
 use Rattle.dart_tool.specs.declared.status.Status.{Status}
 use Rattle.dart_tool.specs.declared.status.Status.TheVariants.{Done, Usage, Refused, Limit, ReadFault, WriteFault, Memory}
 use Rattle.dart_tool.specs.declared.status.Refusal.{Refusal}
@@ -11,29 +13,42 @@ use Rattle.dart_tool.specs.declared.status.Refusal.TheVariants.{NotFound, NotBui
 use Rattle.dart_tool.specs.declared.words.Verb.{Verb}
 use Rattle.dart_tool.specs.declared.words.Verb.TheVariants as v
 use Rattle.dart_tool.specs.Language.{IsNoUnitFor, RefusedFor, Runs, GivesRun, DifferInAnnotationsAlone}
-use Rattle.dart_tool.specs.Outcome.{FileGives, EraseGives, VerbGives, CommandGives, IsOutcome, usage_outcome, transcript, refused, erased_outcome}
+use Rattle.dart_tool.specs.Outcome.{FileGives, EraseGives, VerbGives, CommandGives, IsOutcome, usage_outcome, transcript, transcript_of, refused, erased_outcome}
+use Rattle.dart_tool.specs.Program.{WhereHas}
 use Rattle.dart_tool.specs.Run.{Run}
 use Rattle.dart_tool.specs.Tool.{Answers, CutShort, Delivers}
 use Rattle.dart_tool.specs.Words.{Command, reading}
 use Rattle.dart_tool.proofs.LanguageLaws.{one_refusal, one_run, run_unrefused, file_unread}
 use Rattle.dart_tool.proofs.UnitLaws.{one_reason_for, one_erased, erased_unrefused, erased_or_refused}
 
-pub one_file_outcome : (name : List ℕ) (content : Option (List ℕ)) (a b : Outcome) → FileGives name content a → FileGives name content b → a ≡ b
-one_file_outcome name None a b x y = x ∙ sym y
-one_file_outcome name (Some text) a b (inl (why, has, e)) (inl (also, other, f)) = e ∙ ap (λ w. refused w name) (one_refusal text why also has other) ∙ sym f
-one_file_outcome name (Some text) a b (inl (why, has, e)) (inr (inl (run, runs, f))) = absurd (run_unrefused text run why runs has)
-one_file_outcome name (Some text) a b (inl (why, has, e)) (inr (inr (none, no_run, f))) = absurd (none why has)
-one_file_outcome name (Some text) a b (inr (inl (run, runs, e))) (inl (why, has, f)) = absurd (run_unrefused text run why runs has)
-one_file_outcome name (Some text) a b (inr (inl (run, runs, e))) (inr (inl (other, also, f))) = e ∙ ap transcript (one_run text run other runs also) ∙ sym f
-one_file_outcome name (Some text) a b (inr (inl (run, runs, e))) (inr (inr (none, no_run, f))) = absurd (no_run run runs)
-one_file_outcome name (Some text) a b (inr (inr (none, no_run, e))) (inl (why, has, f)) = absurd (none why has)
-one_file_outcome name (Some text) a b (inr (inr (none, no_run, e))) (inr (inl (run, runs, f))) = absurd (no_run run runs)
-one_file_outcome name (Some text) a b (inr (inr (none, no_run, e))) (inr (inr (nothing, nowhere, f))) = e ∙ sym f
+pub one_file_outcome : (name : List ℕ) (files : Files) (content : Option (List ℕ)) (a b : Outcome) → FileGives name files content a → FileGives name files content b → a ≡ b
+one_file_outcome name files None a b x y = x ∙ sym y
+one_file_outcome name files (Some text) a b (inl (against, has, e)) (inl (also, other, f)) = e ∙ ap (λ (r : FileRefusal). refused r.why r.file) (one_refusal files name text against also has other) ∙ sym f
+one_file_outcome name files (Some text) a b (inl (against, has, e)) (inr (inl (run, runs, f))) = absurd (run_unrefused files name text run against runs has)
+one_file_outcome name files (Some text) a b (inl (against, has, e)) (inr (inr (none, no_run, f))) = absurd (none against has)
+one_file_outcome name files (Some text) a b (inr (inl (run, runs, e))) (inl (against, has, f)) = absurd (run_unrefused files name text run against runs has)
+one_file_outcome name files (Some text) a b (inr (inl (run, runs, e))) (inr (inl (other, also, f))) = e ∙ ap transcript (one_run text run other runs also) ∙ sym f
+one_file_outcome name files (Some text) a b (inr (inl (run, runs, e))) (inr (inr (none, no_run, f))) = absurd (no_run run runs)
+one_file_outcome name files (Some text) a b (inr (inr (none, no_run, e))) (inl (against, has, f)) = absurd (none against has)
+one_file_outcome name files (Some text) a b (inr (inr (none, no_run, e))) (inr (inl (run, runs, f))) = absurd (no_run run runs)
+one_file_outcome name files (Some text) a b (inr (inr (none, no_run, e))) (inr (inr (nothing, nowhere, f))) = e ∙ sym f
 
--- a file whose text is refused for no reason, and comes to no run
-pub not_built : {E : Type 0} (name text : List ℕ) → ((why : Refusal) → RefusedFor text why → ⊥) → GivesRun text None → (result : Result Outcome E) → IfOk result (λ out. out ≡ refused NotBuilt name) → IfOk result (λ out. FileGives name (Some text) out)
-not_built name text no_reason no_run (Err error) h = tt
-not_built name text no_reason no_run (Ok out) h = inr (inr (no_reason, no_run, h))
+-- a root that comes to a run
+pub printed_given : (told : Option Files) (name text : List ℕ) (printed : Printed) (out : Outcome) → GivesRun text (Some printed) → out ≡ transcript_of printed.bytes printed.ending → WhereHas told name text (λ files. FileGives name files (Some text) out)
+printed_given None name text printed out gives is = tt
+printed_given (Some files) name text printed out (run, runs, print) is = λ has.
+    let ended : transcript_of printed.bytes printed.ending ≡ transcript run = λ i. transcript_of (print.0 i) (print.1 i) in
+    inr (inl (run, runs, is ∙ ended))
+
+-- one that is refused for no reason, and comes to no run
+pub not_built : (told : Option Files) (name text : List ℕ) (out : Outcome) → WhereHas told name text (λ files. (against : FileRefusal) → RefusedFor files name text against → ⊥) → GivesRun text None → out ≡ refused NotBuilt name → WhereHas told name text (λ files. FileGives name files (Some text) out)
+not_built None name text out no_reason no_run is = tt
+not_built (Some files) name text out no_reason no_run is = λ has. inr (inr (no_reason has, no_run, is))
+
+-- one that is refused
+pub refusal_given : (told : Option Files) (name text : List ℕ) (against : FileRefusal) (out : Outcome) → WhereHas told name text (λ files. RefusedFor files name text against) → out ≡ refused against.why against.file → WhereHas told name text (λ files. FileGives name files (Some text) out)
+refusal_given None name text against out refused is = tt
+refusal_given (Some files) name text against out refused is = λ has. inl (against, refused has, is)
 
 -- a file whose text is no unit
 pub erase_refused : {E : Type 0} (name text : List ℕ) (why : Refusal) → IsNoUnitFor text why → (result : Result Outcome E) → IfOk result (λ out. out ≡ refused why name) → IfOk result (λ out. EraseGives name (Some text) out)
@@ -48,30 +63,44 @@ one_erase_outcome name (Some text) a b (inr (bytes, erases, e)) (inl (why, is, f
 one_erase_outcome name (Some text) a b (inr (bytes, erases, e)) (inr (others, also, f)) =
     e ∙ ap erased_outcome (one_erased text bytes others erases also) ∙ sym f
 
--- what a command gives for the text of a file that is there
-pub verb_gives : {E : Type 0} (verb one : Verb) (name : List ℕ) (content : Option (List ℕ)) (text read : List ℕ) → verb ≡ one → content ≡ Some text → read ≡ text → (result : Result Outcome E) → IfOk result (λ out. VerbGives one name (Some read) out) → IfOk result (λ out. VerbGives verb name content out)
-verb_gives verb one name content text read e f g (Err error) h = tt
-verb_gives verb one name content text read e f g (Ok out) h =
-    subst (λ (x : Verb). VerbGives x name content out) (sym e)
-    (subst (λ (c : Option (List ℕ)). VerbGives one name c out) (sym f)
-    (subst (λ (r : List ℕ). VerbGives one name (Some r) out) g h))
+one_verb_outcome : (verb : Verb) (name : List ℕ) (files : Files) (content : Option (List ℕ)) (a b : Outcome) → VerbGives verb name files content a → VerbGives verb name files content b → a ≡ b
+one_verb_outcome v.Run name files content a b x y = one_file_outcome name files content a b x y
+one_verb_outcome v.Erase name files content a b x y = one_erase_outcome name content a b x y
 
-one_verb_outcome : (verb : Verb) (name : List ℕ) (content : Option (List ℕ)) (a b : Outcome) → VerbGives verb name content a → VerbGives verb name content b → a ≡ b
-one_verb_outcome v.Run name content a b x y = one_file_outcome name content a b x y
-one_verb_outcome v.Erase name content a b x y = one_erase_outcome name content a b x y
+-- what a command gives for a file that isn't there
+pub absent_given : (told : Option Files) (verb : Verb) (name : List ℕ) (content : Option (List ℕ)) (out : Outcome) → content ≡ None → out ≡ refused NotFound name → IfSome told (λ files. file_of files name ≡ content → VerbGives verb name files content out)
+absent_given None verb name content out e is = tt
+absent_given (Some files) v.Run name content out e is = λ has. subst (λ (c : Option (List ℕ)). FileGives name files c out) (sym e) is
+absent_given (Some files) v.Erase name content out e is = λ has. subst (λ (c : Option (List ℕ)). EraseGives name c out) (sym e) is
+
+-- what `run` gives for a root that is there
+pub root_given : {E : Type 0} (told : Option Files) (verb : Verb) (name : List ℕ) (content : Option (List ℕ)) (text read : List ℕ) (result : Result Outcome E) → verb ≡ v.Run → content ≡ Some text → read ≡ text → IfOk result (λ out. WhereHas told name read (λ files. FileGives name files (Some read) out)) → IfOk result (λ out. IfSome told (λ files. file_of files name ≡ content → VerbGives verb name files content out))
+root_given told verb name content text read (Err error) e f g is = tt
+root_given None verb name content text read (Ok out) e f g is = tt
+root_given (Some files) verb name content text read (Ok out) e f g is = λ has.
+    let given : FileGives name files (Some read) out = is (has ∙ f ∙ ap Some (sym g)) in
+    subst (λ (x : Verb). VerbGives x name files content out) (sym e)
+    (subst (λ (c : Option (List ℕ)). FileGives name files c out) (ap Some g ∙ sym f) given)
+
+-- what `erase` gives for a file that is there
+pub erased_given : (told : Option Files) (verb : Verb) (name : List ℕ) (content : Option (List ℕ)) (text read : List ℕ) (out : Outcome) → verb ≡ v.Erase → content ≡ Some text → read ≡ text → EraseGives name (Some read) out → IfSome told (λ files. file_of files name ≡ content → VerbGives verb name files content out)
+erased_given None verb name content text read out e f g is = tt
+erased_given (Some files) verb name content text read out e f g is = λ has.
+    subst (λ (x : Verb). VerbGives x name files content out) (sym e)
+    (subst (λ (c : Option (List ℕ)). EraseGives name c out) (ap Some g ∙ sym f) is)
 
 one_command_outcome : (command : Option Command) (files : Files) (a b : Outcome) → CommandGives command files a → CommandGives command files b → a ≡ b
 one_command_outcome None files a b x y = x ∙ sym y
-one_command_outcome (Some command) files a b x y = one_verb_outcome command.verb command.file (file_of files command.file) a b x y
+one_command_outcome (Some command) files a b x y = one_verb_outcome command.verb command.file files (file_of files command.file) a b x y
 
 -- the words and the files have at most one outcome
 pub one_outcome : (words : List (List ℕ)) (files : Files) (a b : Outcome) → IsOutcome words files a → IsOutcome words files b → a ≡ b
 one_outcome words files a b x y = one_command_outcome (reading words) files a b x y
 
-some_file_outcome : (name : List ℕ) (content : Option (List ℕ)) → ((out : Outcome) → FileGives name content out → ⊥) → ⊥
-some_file_outcome name None none = none (refused NotFound name) refl
-some_file_outcome name (Some text) none =
-    let no_reason : (why : Refusal) → RefusedFor text why → ⊥ = λ why has. none (refused why name) (inl (why, has, refl)) in
+some_file_outcome : (name : List ℕ) (files : Files) (content : Option (List ℕ)) → ((out : Outcome) → FileGives name files content out → ⊥) → ⊥
+some_file_outcome name files None none = none (refused NotFound name) refl
+some_file_outcome name files (Some text) none =
+    let no_reason : (against : FileRefusal) → RefusedFor files name text against → ⊥ = λ against has. none (refused against.why against.file) (inl (against, has, refl)) in
     let no_run : (run : Run) → Runs text run → ⊥ = λ run runs. none (transcript run) (inr (inl (run, runs, refl))) in
     none (refused NotBuilt name) (inr (inr (no_reason, no_run, refl)))
 
@@ -81,13 +110,13 @@ some_erase_outcome name (Some text) none = erased_or_refused text
     (λ why is. none (refused why name) (inl (why, is, refl)))
     (λ bytes erases. none (erased_outcome bytes) (inr (bytes, erases, refl)))
 
-some_verb_outcome : (verb : Verb) (name : List ℕ) (content : Option (List ℕ)) → ((out : Outcome) → VerbGives verb name content out → ⊥) → ⊥
-some_verb_outcome v.Run name content none = some_file_outcome name content none
-some_verb_outcome v.Erase name content none = some_erase_outcome name content none
+some_verb_outcome : (verb : Verb) (name : List ℕ) (files : Files) (content : Option (List ℕ)) → ((out : Outcome) → VerbGives verb name files content out → ⊥) → ⊥
+some_verb_outcome v.Run name files content none = some_file_outcome name files content none
+some_verb_outcome v.Erase name files content none = some_erase_outcome name content none
 
 some_command_outcome : (command : Option Command) (files : Files) → ((out : Outcome) → CommandGives command files out → ⊥) → ⊥
 some_command_outcome None files none = none usage_outcome refl
-some_command_outcome (Some command) files none = some_verb_outcome command.verb command.file (file_of files command.file) none
+some_command_outcome (Some command) files none = some_verb_outcome command.verb command.file files (file_of files command.file) none
 
 -- the words and the files aren't without an outcome
 pub some_outcome : (words : List (List ℕ)) (files : Files) → ((out : Outcome) → IsOutcome words files out → ⊥) → ⊥
@@ -107,10 +136,11 @@ answers_from_delivered IsDue due Refused before after is one h = (due, is, h.0, 
 answers_from_delivered IsDue due Limit before after is one h = (due, is, h.0, h.1)
 
 -- a read, and then the delivery of the outcome of what was read
-pub read_answers : (told : Option Files) (verb : Verb) (name : List ℕ) (content : Option (List ℕ)) (due : Outcome) (status : Status) (before after : Option (List ℕ)) → IfSome told (λ files. content ≡ file_of files name) → VerbGives verb name content due → Delivers due status before after → IfSome told (λ files. Answers (CommandGives (Some (record { verb = verb; file = name })) files) status before after)
-read_answers None verb name content due status before after is gives h = tt
-read_answers (Some files) verb name content due status before after is gives h =
-    subst (λ (c : Option (List ℕ)). Answers (VerbGives verb name c) status before after) is (answers_from_delivered (VerbGives verb name content) due status before after gives (λ out other. one_verb_outcome verb name content out due other gives) h)
+pub read_answers : (told kept : Option Files) (verb : Verb) (name : List ℕ) (content : Option (List ℕ)) (due : Outcome) (status : Status) (before after : Option (List ℕ)) → kept ≡ told → IfSome told (λ files. content ≡ file_of files name) → IfSome kept (λ files. file_of files name ≡ content → VerbGives verb name files content due) → Delivers due status before after → IfSome told (λ files. Answers (CommandGives (Some (record { verb = verb; file = name })) files) status before after)
+read_answers None kept verb name content due status before after same is gives h = tt
+read_answers (Some files) kept verb name content due status before after same is gives h =
+    let given : VerbGives verb name files content due = subst (λ (o : Option Files). IfSome o (λ fs. file_of fs name ≡ content → VerbGives verb name fs content due)) same gives (sym is) in
+    subst (λ (c : Option (List ℕ)). Answers (VerbGives verb name files c) status before after) is (answers_from_delivered (VerbGives verb name files content) due status before after given (λ out other. one_verb_outcome verb name files content out due other given) h)
 
 -- what the words ask is what their command asks
 pub words_answer : (told : Option Files) (words : List (List ℕ)) (command : Option Command) (status : Status) (before after : Option (List ℕ)) → reading words ≡ command → IfSome told (λ files. Answers (CommandGives command files) status before after) → IfSome told (λ files. Answers (IsOutcome words files) status before after)
@@ -125,6 +155,6 @@ usage_answers (Some files) status before after h = answers_from_delivered (Comma
 -- type annotations in a file that is run aren't read
 pub outcome_unread : (words : List (List ℕ)) (files others : Files) (name text other : List ℕ) (out : Outcome) → reading words ≡ Some (record { verb = v.Run; file = name }) → file_of files name ≡ Some text → file_of others name ≡ Some other → DifferInAnnotationsAlone text other → (IsOutcome words files out) ↔ (IsOutcome words others out)
 outcome_unread words files others name text other out is here there d =
-    let gives : (FileGives name (Some text) out) ↔ (FileGives name (Some other) out) = file_unread name text other out d in
-    let from : (FileGives name (file_of files name) out) ↔ (FileGives name (file_of others name) out) = rw (here, there) gives in
+    let gives : (FileGives name files (Some text) out) ↔ (FileGives name others (Some other) out) = file_unread name files others text other out d in
+    let from : (FileGives name files (file_of files name) out) ↔ (FileGives name others (file_of others name) out) = rw (here, there) gives in
     rw is from

@@ -1,5 +1,5 @@
 -- A text is one unit, or none for one reason.
-use Rattle.std.proofs.Common.{◌≡◌, ◌∙◌, sym, ap, refl, ℕ, List, Option, Some, None, Result, Ok, Err, ◌⊎◌, inl, inr}
+use Rattle.std.proofs.Common.{◌≡◌, ◌∙◌, sym, ap, refl, ℕ, List, Option, Some, None, Result, Ok, Err, inl, inr}
 use Rattle.dart_token.specs.declared.token.Token.{Token}
 use Rattle.dart_tree.specs.Unit.{UnitTree}
 use Rattle.dart_syntax.specs.Syntax.{SyntaxReason, left_out_at, syntax_at, too_deep_at}

@@ -1,15 +1,18 @@
--- What the tool knows of the language: for which reason a text is refused, and to what run it comes. Outcomes and
+-- What the tool knows of the language: for which reason a program is refused, and to what run it comes. Outcomes and
 -- laws speak of these words alone, and these words alone speak of the subset that is built.
 use Rattle.std.specs.Prelude.{◌≡◌, ◌⊎◌, ℕ, List, map, Option, None, Some}
+use Rattle.dart_edge.specs.Files.{Files}
 use Rattle.dart_front.specs.Texts.{IsNoUnit}
 use Rattle.dart_lex.specs.declared.lexer.LexFault.{LexFault}
 use Rattle.dart_lex.specs.Spelling.{HasReason}
 use Rattle.parse_unit.specs.declared.fault.ParseFault.{ParseFault}
 use Rattle.dart_tool.specs.declared.language.Stop.{Stop}
 use Rattle.dart_tool.specs.declared.language.Stop.TheVariants.{Refused, Memory}
+use Rattle.dart_tool.specs.declared.program.FileRefusal.{FileRefusal}
 use Rattle.dart_tool.specs.declared.run.Printed.{Printed}
 use Rattle.dart_tool.specs.declared.status.Refusal.{Refusal}
 use Rattle.dart_tool.specs.declared.subset.program.Statement.{Statement}
+use Rattle.dart_tool.specs.Program.{ProgramRefused}
 use Rattle.dart_tool.specs.Run.{Run, IsPrintOf}
 use Rattle.dart_tool.specs.Status.{lexical_refusal, syntax_refusal}
 use Rattle.dart_tool.specs.Subset.Model.{run_of}
@@ -29,10 +32,10 @@ SyntaxRefuses text why =
 abbrev pub IsNoUnitFor : List ℕ → Refusal → Type 0
 IsNoUnitFor text why = LexisRefuses text why ⊎ SyntaxRefuses text why
 
--- The text is not run, for this reason: the one for which it is no unit. A text that spells a program of the subset is
--- refused for its lexical reason alone: the subset is a part of the grammar, and this says so where it isn't proved.
-abbrev pub RefusedFor : List ℕ → Refusal → Type 0
-RefusedFor text why = LexisRefuses text why ⊎ (SyntaxRefuses text why × SpellsNoProgram text)
+-- The root with this name and text is not run, for this reason against the program. A text that spells a program of the
+-- subset has none: it mentions no file, and the subset is a part of the grammar, which this says where it isn't proved.
+abbrev pub RefusedFor : Files → List ℕ → List ℕ → FileRefusal → Type 0
+RefusedFor files name text against = ProgramRefused files name against × SpellsNoProgram text
 
 -- The text is a program, and this is its run.
 abbrev pub Runs : List ℕ → Run → Type 0

@@ -7,12 +7,13 @@ use Rattle.dart_base.specs.Feature.{feature_text}
 use Rattle.dart_edge.specs.Files.{Files, file_of}
 use Rattle.dart_front.specs.Texts.{ErasesTo}
 use Rattle.dart_tool.specs.declared.outcome.Outcome.{Outcome}
+use Rattle.dart_tool.specs.declared.program.FileRefusal.{FileRefusal}
 use Rattle.dart_tool.specs.declared.run.Ending.{Ending}
 use Rattle.dart_tool.specs.declared.run.Ending.TheVariants.{Returned, IntegerLimit}
 use Rattle.dart_tool.specs.declared.status.Status.{Status}
 use Rattle.dart_tool.specs.declared.status.Status.TheVariants.{Done, Usage, Refused, Limit, ReadFault, WriteFault, Memory}
 use Rattle.dart_tool.specs.declared.status.Refusal.{Refusal}
-use Rattle.dart_tool.specs.declared.status.Refusal.TheVariants.{NotFound, NotUtf8, BadToken, LeftOut, IntegerTooLarge, Syntax, TooDeep, NotBuilt}
+use Rattle.dart_tool.specs.declared.status.Refusal.TheVariants.{NotFound, NotUtf8, BadToken, LeftOut, IntegerTooLarge, Syntax, TooDeep, BadDirective, ProgramTooLarge, NotBuilt}
 use Rattle.dart_tool.specs.declared.words.Verb.{Verb}
 use Rattle.dart_tool.specs.declared.words.Verb.TheVariants as v
 use Rattle.dart_tool.specs.Language.{IsNoUnitFor, RefusedFor, Runs}
@@ -33,26 +34,32 @@ usage_outcome = record { status = Usage; bytes = with_end usage_line }
 abbrev pub shown : List ℕ → List ℕ
 shown name = map (λ b. if nat_lt b (byte " ") then byte " " else b) name
 
--- FILE:LINE:COLUMN
-abbrev pub shown_place : Place → List ℕ → List ℕ
-shown_place place name =
-    shown name ++ byte ":" ∷ (decimal place.line ++ byte ":" ∷ decimal place.column)
+-- a blank and a file's name
+abbrev pub named : List ℕ → List ℕ
+named name = byte " " ∷ shown name
+
+-- a blank and FILE:LINE:COLUMN
+abbrev pub named_place : Place → List ℕ → List ℕ
+named_place place name =
+    named name ++ byte ":" ∷ (decimal place.line ++ byte ":" ∷ decimal place.column)
 
 -- what the line of a refusal says after the kind: the file, with the place where there is one, and then an offset or
--- a feature
+-- a feature; nothing where the refusal is against the program
 abbrev pub refusal_details : Refusal → List ℕ → List ℕ
-refusal_details (NotUtf8 offset) name = shown name ++ byte " " ∷ decimal offset
-refusal_details (BadToken place) name = shown_place place name
-refusal_details (LeftOut place feature) name = shown_place place name ++ byte " " ∷ feature_text feature
-refusal_details (IntegerTooLarge place) name = shown_place place name
-refusal_details (Syntax place) name = shown_place place name
-refusal_details (TooDeep place) name = shown_place place name
-refusal_details why name = shown name
+refusal_details (NotUtf8 offset) name = named name ++ byte " " ∷ decimal offset
+refusal_details (BadToken place) name = named_place place name
+refusal_details (LeftOut place feature) name = named_place place name ++ byte " " ∷ feature_text feature
+refusal_details (IntegerTooLarge place) name = named_place place name
+refusal_details (Syntax place) name = named_place place name
+refusal_details (TooDeep place) name = named_place place name
+refusal_details (BadDirective place) name = named_place place name
+refusal_details ProgramTooLarge name = []
+refusal_details why name = named name
 
 abbrev pub refused : Refusal → List ℕ → Outcome
 refused why name = record {
   status = Refused;
-  bytes = with_end (codes "** refused " ++ (refusal_text why ++ byte " " ∷ refusal_details why name));
+  bytes = with_end (codes "** refused " ++ (refusal_text why ++ refusal_details why name));
 }
 
 abbrev pub end_status : Ending → Status
@@ -73,14 +80,14 @@ transcript_of bytes ending =
 abbrev pub transcript : Run → Outcome
 transcript run = transcript_of (printed_bytes run) run.ending
 
--- What `run` gives for a file that isn't there, or for one with this text: the refusal for the text's reason, or the
+-- What `run` gives for a root that isn't there, or for one with this text: the refusal for the program's reason, or the
 -- transcript of its run, or, where it has neither, NotBuilt.
-abbrev pub FileGives : List ℕ → Option (List ℕ) → Outcome → Type 0
-FileGives name None out = out ≡ refused NotFound name
-FileGives name (Some text) out =
-    ((why : Refusal) × RefusedFor text why × (out ≡ refused why name)) ⊎
+abbrev pub FileGives : List ℕ → Files → Option (List ℕ) → Outcome → Type 0
+FileGives name files None out = out ≡ refused NotFound name
+FileGives name files (Some text) out =
+    ((against : FileRefusal) × RefusedFor files name text against × (out ≡ refused against.why against.file)) ⊎
     (((run : Run) × Runs text run × (out ≡ transcript run)) ⊎
-    (((why : Refusal) → RefusedFor text why → ⊥) × ((run : Run) → Runs text run → ⊥) ×
+    (((against : FileRefusal) → RefusedFor files name text against → ⊥) × ((run : Run) → Runs text run → ⊥) ×
     (out ≡ refused NotBuilt name)))
 
 -- the text of a unit without annotations
@@ -95,16 +102,16 @@ EraseGives name (Some text) out =
     ((why : Refusal) × IsNoUnitFor text why × (out ≡ refused why name)) ⊎
     ((bytes : List ℕ) × ErasesTo text bytes × (out ≡ erased_outcome bytes))
 
--- What a command gives for its file.
-abbrev pub VerbGives : Verb → List ℕ → Option (List ℕ) → Outcome → Type 0
-VerbGives v.Run name content out = FileGives name content out
-VerbGives v.Erase name content out = EraseGives name content out
+-- What a command gives for its file, where these are the files.
+abbrev pub VerbGives : Verb → List ℕ → Files → Option (List ℕ) → Outcome → Type 0
+VerbGives v.Run name files content out = FileGives name files content out
+VerbGives v.Erase name files content out = EraseGives name content out
 
 -- What a command gives.
 abbrev pub CommandGives : Option Command → Files → Outcome → Type 0
 CommandGives None files out = out ≡ usage_outcome
 CommandGives (Some command) files out =
-    VerbGives command.verb command.file (file_of files command.file) out
+    VerbGives command.verb command.file files (file_of files command.file) out
 
 -- The outcome of the words and the files.
 abbrev pub IsOutcome : List (List ℕ) → Files → Outcome → Type 0

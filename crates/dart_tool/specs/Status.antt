@@ -6,10 +6,14 @@ use Rattle.dart_front.specs.declared.fault.TextFault.{TextFault}
 use Rattle.dart_front.specs.declared.fault.TextFault.TheVariants as t
 use Rattle.parse_unit.specs.declared.fault.ParseFault.{ParseFault}
 use Rattle.parse_unit.specs.declared.fault.ParseFault.TheVariants as p
+use Rattle.scope_load.specs.declared.reason.Reason.{Reason}
+use Rattle.scope_load.specs.declared.reason.Reason.TheVariants as r
+use Rattle.scope_load.specs.declared.units.TextReason.{TextReason}
+use Rattle.scope_load.specs.declared.units.TextReason.TheVariants as x
 use Rattle.dart_tool.specs.declared.status.Status.{Status}
 use Rattle.dart_tool.specs.declared.status.Status.TheVariants.{Done, Usage, Refused, Limit, ReadFault, WriteFault, Memory}
 use Rattle.dart_tool.specs.declared.status.Refusal.{Refusal}
-use Rattle.dart_tool.specs.declared.status.Refusal.TheVariants.{NotFound, NotUtf8, BadToken, LeftOut, IntegerTooLarge, Syntax, TooDeep, TooLarge, NotBuilt}
+use Rattle.dart_tool.specs.declared.status.Refusal.TheVariants.{NotFound, NotUtf8, BadToken, LeftOut, IntegerTooLarge, Syntax, TooDeep, TooLarge, BadDirective, ProgramTooLarge, NotBuilt}
 
 -- the number with which the process ends
 abbrev pub status_number : Status → ℕ
@@ -31,6 +35,8 @@ refusal_text (LeftOut place feature) = codes "LeftOut"
 refusal_text (IntegerTooLarge place) = codes "IntegerTooLarge"
 refusal_text (Syntax place) = codes "Syntax"
 refusal_text (TooDeep place) = codes "TooDeep"
+refusal_text (BadDirective place) = codes "BadDirective"
+refusal_text ProgramTooLarge = codes "TooLarge"
 refusal_text NotBuilt = codes "NotBuilt"
 
 -- the refusal for a lexical reason; being out of memory is none
@@ -54,3 +60,20 @@ abbrev pub text_refusal : TextFault → Option Refusal
 text_refusal (t.Lexis fault) = lexical_refusal fault
 text_refusal (t.Syntax fault) = syntax_refusal fault
 text_refusal t.Memory = None
+
+-- the refusal of a file whose text is no unit of a program
+abbrev pub text_reason_refusal : TextReason → Refusal
+text_reason_refusal x.TooLarge = TooLarge
+text_reason_refusal (x.NotUtf8 offset) = NotUtf8 offset
+text_reason_refusal (x.BadToken place) = BadToken place
+text_reason_refusal (x.LeftOut place feature) = LeftOut place feature
+text_reason_refusal (x.IntegerTooLarge place) = IntegerTooLarge place
+text_reason_refusal (x.Syntax place) = Syntax place
+text_reason_refusal (x.TooDeep place) = TooDeep place
+
+-- the refusal of a unit of a program
+abbrev pub reason_refusal : Reason → Refusal
+reason_refusal r.NotFound = NotFound
+reason_refusal (r.Text reason) = text_reason_refusal reason
+reason_refusal (r.LeftOut place feature) = LeftOut place feature
+reason_refusal (r.BadDirective place) = BadDirective place

@@ -1,5 +1,5 @@
 -- What the words of a command line mean.
-use Rattle.std.specs.Prelude.{◌==◌, ℕ, List, [], ◌∷◌, Bool, false, not, ◌&&◌, if◌then◌else◌, Option, Some, None, codes}
+use Rattle.std.specs.Prelude.{◌==◌, ℕ, List, [], ◌∷◌, Bool, false, not, if◌then◌else◌, Option, Some, None, codes}
 use Rattle.std.specs.Str.{byte, bytes_eq}
 use Rattle.dart_tool.specs.declared.words.Verb.{Verb}
 use Rattle.dart_tool.specs.declared.words.Verb.TheVariants.{Run, Erase}

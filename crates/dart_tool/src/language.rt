@@ -1,25 +1,24 @@
 // From the bytes of a file to what its program prints, to its text without annotations, or to the reason for which it is
 // refused.
 ghost use Rattle.std.specs.Prelude.{◌≡◌, IfOk, IfErr};
+ghost use Rattle.dart_edge.specs.Fault.{Counts};
 ghost use Rattle.dart_front.specs.Texts.{ErasesTo};
-ghost use Rattle.dart_tool.specs.declared.language.Stop.TheVariants.{Memory};
-ghost use Rattle.dart_tool.specs.declared.status.Refusal.{Refusal as Reason};
 ghost use Rattle.dart_tool.specs.Language.{GivesRun, IsNoUnitFor, RefusedFor, Stops, stop_for};
-ghost use Rattle.dart_tool.specs.Status.{lexical_refusal, syntax_refusal, text_refusal};
+ghost use Rattle.dart_tool.specs.Program.{Judges, run_failed};
+ghost use Rattle.dart_tool.specs.Status.{text_refusal};
 
+use crate::program::{RunStop, check_program};
 use crate::run::Printed;
 use crate::status::Refusal;
 use crate::subset::evaluate;
-use crate::subset::source::{Reading, source_of};
+use crate::subset::source::{Reading, reading_of};
 use dart_base::bytes::Bytes;
-use dart_front::check::check;
+use dart_edge::source::Sources;
 use dart_front::erased::erased_text;
 use dart_front::fault::TextFault;
-use dart_lex::lexer::{LexFault, lex};
-use parse_unit::fault::ParseFault;
-use std::alloc::{AllocError, Global};
+use std::alloc::Global;
 
-/// Why a text isn't run or erased.
+/// Why a text isn't erased.
 #[derive(Clone, Copy, Debug, PartialEq, Eq)]
 pub enum Stop {
     /// It is refused for this reason.
@@ -39,22 +38,6 @@ impl Stop {
     }
 }
 
-impl From<LexFault> for Stop {
-    ghost from_gives = { λ fault stop. stop ≡ stop_for (lexical_refusal fault) };
-
-    fn from(fault: LexFault) -> Stop {
-        Stop::new(Refusal::of_lexis(fault))
-    }
-}
-
-impl From<ParseFault> for Stop {
-    ghost from_gives = { λ fault stop. stop ≡ stop_for (syntax_refusal fault) };
-
-    fn from(fault: ParseFault) -> Stop {
-        Stop::new(Refusal::of_syntax(fault))
-    }
-}
-
 impl From<TextFault> for Stop {
     ghost from_gives = { λ fault stop. stop ≡ stop_for (text_refusal fault) };
 
@@ -63,27 +46,24 @@ impl From<TextFault> for Stop {
     }
 }
 
-impl From<AllocError> for Stop {
-    ghost from_gives = { λ _ stop. stop ≡ Memory };
-
-    fn from(_error: AllocError) -> Stop {
-        Stop::Memory
-    }
-}
-
-/// Runs the program that the text is. None where it is refused for no reason, and yet no program of the subset that is
-/// built.
-pub fn run_text(alloc: Global, text: &[u8]) -> Result<Option<Printed>, Stop>
+/// Runs the program whose root has this name and text. None where it is refused for no reason, and yet no program of the
+/// subset that is built.
+pub fn run_text<S: Sources>(
+    alloc: Global,
+    name: &str,
+    text: &[u8],
+    sources: &mut S,
+) -> Result<Option<Printed>, RunStop>
     ensures runs { IfOk result (GivesRun text.now) }
-    ensures unrefused { IfOk result (λ _. (why : Reason) → RefusedFor text.now why → ⊥) }
-    ensures stops { IfErr result (Stops (RefusedFor text.now)) }
+    ensures answer { Judges (λ files. RefusedFor files name.now text.now) (S.files sources.old) name.now text.now result }
+    ensures same { S.files sources.new ≡ S.files sources.old }
+    ensures cause { Counts (run_failed result) (S.faults sources.old) (S.faults sources.new) }
 {
-    let tokens = lex(alloc, 0, text)?;
-    match source_of(alloc, text, &tokens)? {
+    match reading_of(alloc, text)? {
         Reading::Source(statements) => Ok(Some(evaluate::run(alloc, &statements)?)),
         Reading::Unfit => Ok(None),
         Reading::Unspelled => {
-            check(alloc, &tokens)?;
+            check_program(alloc, name, text, sources)?;
             Ok(None)
         }
     }

@@ -36,8 +36,9 @@ pub fn never_without_outcome()
 pub fn annotations_are_not_read()
     ensures run { (text other : List ℕ) (run : Run) → DifferInAnnotationsAlone text other →
         Runs text run ↔ Runs other run }
-    ensures file { (name text other : List ℕ) (out : Outcome) → DifferInAnnotationsAlone text other →
-        FileGives name (Some text) out ↔ FileGives name (Some other) out }
+    ensures file { (name : List ℕ) (files others : Files) (text other : List ℕ) (out : Outcome) →
+        DifferInAnnotationsAlone text other →
+        FileGives name files (Some text) out ↔ FileGives name others (Some other) out }
     ensures outcome { (words : List (List ℕ)) (files others : Files)
         (name text other : List ℕ) (out : Outcome) →
         reading words ≡ Some (record { verb = v.Run; file = name }) →

@@ -4,6 +4,7 @@
 mod language;
 pub mod laws;
 mod outcome;
+mod program;
 mod run;
 pub mod status;
 mod subset;

@@ -1,14 +1,20 @@
 // What a file gives: the bytes that are written, and the status.
-ghost use Rattle.std.specs.Prelude.{◌≡◌, ◌++◌, false, Some, IfOk};
+ghost use Rattle.std.specs.Prelude.{◌≡◌, ◌++◌, false, Some, IfOk, IfSome};
 ghost use Rattle.std.specs.Fmt.{decimal};
-ghost use Rattle.dart_tool.specs.Outcome.{EraseGives, FileGives, VerbGives, refused, refusal_details, shown, shown_place, transcript_of, is_cut_short};
+ghost use Rattle.dart_edge.specs.Fault.{Counts};
+ghost use Rattle.dart_edge.specs.Files.{file_of};
+ghost use Rattle.dart_edge.specs.Reads.{read_failed};
+ghost use Rattle.dart_tool.specs.Outcome.{EraseGives, FileGives, VerbGives, refused, refusal_details, shown, named, named_place, transcript_of, is_cut_short};
+ghost use Rattle.dart_tool.specs.Program.{WhereHas};
 
 use crate::language::{Stop, erase_text, run_text};
+use crate::program::RunStop;
 use crate::run::{Ending, Printed};
 use crate::status::{Refusal, Status};
 use crate::words::Verb;
 use dart_base::bytes::Bytes;
 use dart_base::place::Place;
+use dart_edge::source::{SourceFault, Sources};
 use std::alloc::{AllocError, Global};
 
 /// All that a run of the tool writes, and how it ends.
@@ -34,11 +40,19 @@ fn push_decimal(alloc: Global, line: &mut Bytes, number: u64) -> Result<(), Allo
     line.append(number.to_string(alloc)?.as_bytes())
 }
 
-// A place in the file, as it is written.
-fn push_place(alloc: Global, line: &mut Bytes, place: Place, name: &[u8]) -> Result<(), AllocError>
-    ensures { IfOk result (λ _. line.new ≡ line.old ++ shown_place place name.now) }
+// A blank, and a file's name as it is written.
+fn push_named(line: &mut Bytes, name: &[u8]) -> Result<(), AllocError>
+    ensures { IfOk result (λ _. line.new ≡ line.old ++ named name.now) }
 {
-    push_shown(line, name)?;
+    line.push(b' ')?;
+    push_shown(line, name)
+}
+
+// A blank, and a place in the file, as it is written.
+fn push_place(alloc: Global, line: &mut Bytes, place: Place, name: &[u8]) -> Result<(), AllocError>
+    ensures { IfOk result (λ _. line.new ≡ line.old ++ named_place place name.now) }
+{
+    push_named(line, name)?;
     line.push(b':')?;
     push_decimal(alloc, line, place.line as u64)?;
     line.push(b':')?;
@@ -56,20 +70,22 @@ fn push_details(
 {
     match why {
         Refusal::NotUtf8(offset) => {
-            push_shown(line, name)?;
+            push_named(line, name)?;
             line.push(b' ')?;
             push_decimal(alloc, line, offset)
         }
         Refusal::BadToken(place)
         | Refusal::IntegerTooLarge(place)
         | Refusal::Syntax(place)
-        | Refusal::TooDeep(place) => push_place(alloc, line, place, name),
+        | Refusal::TooDeep(place)
+        | Refusal::BadDirective(place) => push_place(alloc, line, place, name),
         Refusal::LeftOut(place, feature) => {
             push_place(alloc, line, place, name)?;
             line.push(b' ')?;
             line.append(feature.text())
         }
-        Refusal::NotFound | Refusal::TooLarge | Refusal::NotBuilt => push_shown(line, name),
+        Refusal::NotFound | Refusal::TooLarge | Refusal::NotBuilt => push_named(line, name),
+        Refusal::ProgramTooLarge => Ok(()),
     }
 }
 
@@ -79,7 +95,6 @@ pub fn refused(alloc: Global, why: Refusal, name: &[u8]) -> Result<Outcome, Allo
 {
     let mut bytes = Bytes::from_slice(alloc, b"** refused ")?;
     bytes.append(why.text())?;
-    bytes.push(b' ')?;
     push_details(alloc, &mut bytes, why, name)?;
     bytes.push(b'\n')?;
     Ok(Outcome {
@@ -108,16 +123,28 @@ pub fn transcript_of(printed: Printed) -> Result<Outcome, AllocError>
     }
 }
 
-// What `run` gives for a file with this text.
-fn run_outcome(alloc: Global, name: &[u8], text: &[u8]) -> Result<Outcome, AllocError>
-    ensures gives { IfOk result (λ out. FileGives name.now (Some text.now) out) }
+// What `run` gives for the root with this name and text.
+fn run_outcome<S: Sources>(
+    alloc: Global,
+    name: &str,
+    text: &[u8],
+    sources: &mut S,
+) -> Result<Outcome, SourceFault>
+    ensures gives { IfOk result (λ out. WhereHas (S.files sources.old) name.now text.now
+        (λ files. FileGives name.now files (Some text.now) out)) }
     ensures ended { IfOk result (λ out. is_cut_short out.status ≡ false) }
+    ensures usage { IfOk result (λ out. out.status ≡ Status.Usage → ⊥) }
+    ensures same { S.files sources.new ≡ S.files sources.old }
+    ensures cause { Counts (read_failed result) (S.faults sources.old) (S.faults sources.new) }
 {
-    match run_text(alloc, text) {
-        Ok(Some(printed)) => transcript_of(printed),
-        Ok(None) => refused(alloc, Refusal::NotBuilt, name),
-        Err(Stop::Refused(why)) => refused(alloc, why, name),
-        Err(Stop::Memory) => Err(AllocError),
+    match run_text(alloc, name, text, sources) {
+        Ok(Some(printed)) => Ok(transcript_of(printed)?),
+        Ok(None) => Ok(refused(alloc, Refusal::NotBuilt, name.as_bytes())?),
+        Err(RunStop::Refused(against)) => {
+            Ok(refused(alloc, against.why, against.file.as_slice())?)
+        }
+        Err(RunStop::Failed) => Err(SourceFault::Failed),
+        Err(RunStop::Memory) => Err(SourceFault::Memory),
     }
 }
 
@@ -125,6 +152,7 @@ fn run_outcome(alloc: Global, name: &[u8], text: &[u8]) -> Result<Outcome, Alloc
 fn erase_outcome(alloc: Global, name: &[u8], text: &[u8]) -> Result<Outcome, AllocError>
     ensures gives { IfOk result (λ out. EraseGives name.now (Some text.now) out) }
     ensures ended { IfOk result (λ out. is_cut_short out.status ≡ false) }
+    ensures usage { IfOk result (λ out. out.status ≡ Status.Usage → ⊥) }
 {
     match erase_text(alloc, text) {
         Ok(bytes) => Ok(Outcome {
@@ -136,21 +164,27 @@ fn erase_outcome(alloc: Global, name: &[u8], text: &[u8]) -> Result<Outcome, All
     }
 }
 
-/// What a command gives for its file, or for the name of none.
-pub fn file_outcome(
+/// What a command gives for its file with this content, or for the name of none, where the others come from these
+/// sources.
+pub fn file_outcome<S: Sources>(
     alloc: Global,
     verb: Verb,
-    name: &[u8],
+    name: &str,
     content: Option<Bytes>,
-) -> Result<Outcome, AllocError>
-    ensures gives { IfOk result (λ out. VerbGives verb name.now content out) }
+    sources: &mut S,
+) -> Result<Outcome, SourceFault>
+    ensures gives { IfOk result (λ out. IfSome (S.files sources.old) (λ files. file_of files name.now ≡ content →
+        VerbGives verb name.now files content out)) }
     ensures ended { IfOk result (λ out. is_cut_short out.status ≡ false) }
+    ensures usage { IfOk result (λ out. out.status ≡ Status.Usage → ⊥) }
+    ensures same { S.files sources.new ≡ S.files sources.old }
+    ensures cause { Counts (read_failed result) (S.faults sources.old) (S.faults sources.new) }
 {
     let Some(text) = content else {
-        return refused(alloc, Refusal::NotFound, name);
+        return Ok(refused(alloc, Refusal::NotFound, name.as_bytes())?);
     };
     match verb {
-        Verb::Run => run_outcome(alloc, name, text.as_slice()),
-        Verb::Erase => erase_outcome(alloc, name, text.as_slice()),
+        Verb::Run => run_outcome(alloc, name, text.as_slice(), sources),
+        Verb::Erase => Ok(erase_outcome(alloc, name.as_bytes(), text.as_slice())?),
     }
 }

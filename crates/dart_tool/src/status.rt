@@ -1,12 +1,14 @@
 // How a run of the tool ends, and why it refuses a program.
 ghost use Rattle.std.specs.Prelude.{◌≡◌};
-ghost use Rattle.dart_tool.specs.Status.{status_number, refusal_text, lexical_refusal, syntax_refusal, text_refusal};
+ghost use Rattle.dart_tool.specs.Status.{status_number, refusal_text, lexical_refusal, syntax_refusal, text_refusal, text_reason_refusal, reason_refusal};
 
 use dart_base::feature::Feature;
 use dart_base::place::Place;
 use dart_front::fault::TextFault;
 use dart_lex::lexer::LexFault;
 use parse_unit::fault::ParseFault;
+use scope_load::reason::Reason;
+use scope_load::units::TextReason;
 
 /// How a run of the tool ends. Another one is also a line of `status_number` in specs/Status.antt.
 #[derive(Clone, Copy, Debug, PartialEq, Eq)]
@@ -63,6 +65,10 @@ pub enum Refusal {
     Syntax(Place),
     /// No unit that is not too deep has the tokens up to here.
     TooDeep(Place),
+    /// The directive here names no unit, or another one than it may.
+    BadDirective(Place),
+    /// The program has too many files, or they have too much weight.
+    ProgramTooLarge,
     /// The file is no program of the subset that is built so far.
     NotBuilt,
 }
@@ -105,19 +111,47 @@ impl Refusal {
         }
     }
 
+    /// The refusal of a file whose text is no unit of a program.
+    pub fn of_text_reason(reason: TextReason) -> Refusal
+        ensures { result ≡ text_reason_refusal reason }
+    {
+        match reason {
+            TextReason::TooLarge => Refusal::TooLarge,
+            TextReason::NotUtf8(offset) => Refusal::NotUtf8(offset),
+            TextReason::BadToken(place) => Refusal::BadToken(place),
+            TextReason::LeftOut(place, feature) => Refusal::LeftOut(place, feature),
+            TextReason::IntegerTooLarge(place) => Refusal::IntegerTooLarge(place),
+            TextReason::Syntax(place) => Refusal::Syntax(place),
+            TextReason::TooDeep(place) => Refusal::TooDeep(place),
+        }
+    }
+
+    /// The refusal of a unit of a program.
+    pub fn of_reason(reason: Reason) -> Refusal
+        ensures { result ≡ reason_refusal reason }
+    {
+        match reason {
+            Reason::NotFound => Refusal::NotFound,
+            Reason::Text(reason) => Refusal::of_text_reason(reason),
+            Reason::LeftOut(place, feature) => Refusal::LeftOut(place, feature),
+            Reason::BadDirective(place) => Refusal::BadDirective(place),
+        }
+    }
+
     /// The kind as the line of a refusal shows it.
     pub fn text(self) -> &'static [u8]
         ensures { result.now ≡ refusal_text self }
     {
         match self {
             Refusal::NotFound => b"NotFound",
-            Refusal::TooLarge => b"TooLarge",
+            Refusal::TooLarge | Refusal::ProgramTooLarge => b"TooLarge",
             Refusal::NotUtf8(_) => b"NotUtf8",
             Refusal::BadToken(_) => b"BadToken",
             Refusal::LeftOut(_, _) => b"LeftOut",
             Refusal::IntegerTooLarge(_) => b"IntegerTooLarge",
             Refusal::Syntax(_) => b"Syntax",
             Refusal::TooDeep(_) => b"TooDeep",
+            Refusal::BadDirective(_) => b"BadDirective",
             Refusal::NotBuilt => b"NotBuilt",
         }
     }

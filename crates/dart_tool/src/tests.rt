@@ -349,3 +349,5 @@ fn out_of_memory(rt: HostRuntime) {
         let _ = in_little_memory(&rt, rt.alloc(), command, text, want);
     }
 }
+
+mod several_files;

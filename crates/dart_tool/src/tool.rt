@@ -57,9 +57,10 @@ fn do_verb<S: Sources, K: Sink>(
         Err(SourceFault::Failed) => return Status::ReadFault,
         Err(SourceFault::Memory) => return Status::Memory,
     };
-    match file_outcome(alloc, verb, file.as_bytes(), content) {
+    match file_outcome(alloc, verb, file, content, sources) {
         Ok(due) => deliver(sink, due.status, due.bytes.as_slice()),
-        Err(_) => Status::Memory,
+        Err(SourceFault::Failed) => Status::ReadFault,
+        Err(SourceFault::Memory) => Status::Memory,
     }
 }
 

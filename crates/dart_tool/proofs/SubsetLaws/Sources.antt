@@ -1,8 +1,12 @@
 -- A text is the source of one program at most.
-use Rattle.std.proofs.Common.{◌≡◌, ◌∙◌, ◌≤◌, sym, ap, subst, length, ℕ, List, []}
+use Rattle.std.proofs.Common.{◌≡◌, ◌∙◌, ◌≤◌, sym, ap, subst, length, ℕ, List, [], Option, Some, None, ◌⊎◌, inl, inr}
 use Rattle.dart_token.specs.declared.token.Token.{Token}
-use Rattle.dart_lex.specs.Spelling.{Spells}
-use Rattle.dart_lex.proofs.LexLaws.{one_spelling}
+use Rattle.dart_lex.specs.declared.lexer.LexFault.{LexFault}
+use Rattle.dart_lex.specs.declared.lexer.LexFault.TheVariants as lf
+use Rattle.dart_lex.specs.Spelling.{Spells, HasReason}
+use Rattle.dart_lex.proofs.LexLaws.{one_spelling, spelled_or_refused}
+use Rattle.dart_tool.specs.declared.status.Refusal.{Refusal}
+use Rattle.dart_tool.specs.Status.{lexical_refusal}
 use Rattle.dart_tool.specs.declared.subset.program.Statement.{Statement}
 use Rattle.dart_tool.specs.Subset.Names.{Fits}
 use Rattle.dart_tool.specs.Subset.Terminal.{Terminal, terminals}
@@ -32,3 +36,10 @@ no_program text tokens spelled none p spells = none p (spelled_terminals text to
 -- a text that isn't too long spells the program that its tokens are
 pub spells_this : (text : List ℕ) (tokens : List Token) (p : List Statement) → length text ≤ GREATEST_LENGTH → Spells 0 text tokens → program_terminals p ≡ terminals tokens → SpellsProgram text p
 spells_this text tokens p small spelled printed = record { small = small; spelled = (tokens, spelled, sym printed) }
+
+-- a text with a lexical reason spells no program
+pub refused_no_program : (text : List ℕ) (fault : LexFault) (why : Refusal) → (fault ≡ lf.Memory) ⊎ HasReason 0 text fault → lexical_refusal fault ≡ Some why → SpellsNoProgram text
+refused_no_program text fault why (inl memory) e =
+    let none : ◌≡◌ {A = Option Refusal} None (Some why) = ap lexical_refusal (sym memory) ∙ e in absurd cc
+refused_no_program text fault why (inr reason) e = λ p spells.
+    let (tokens, spelled, is) = spells.spelled in spelled_or_refused 0 text tokens fault spelled reason

@@ -1,5 +1,5 @@
 // Texts that have a lexical reason.
-use super::{Stop, run_text};
+use super::{Stop, erase_text};
 use crate::status::Refusal;
 use dart_base::feature::Feature;
 use dart_base::place::Place;
@@ -24,7 +24,7 @@ fn reasons(rt: HostRuntime) -> Result<(), Fail> {
             Refusal::LeftOut(place, Feature::Doubles),
         ),
     ] {
-        match run_text(rt.alloc(), text.as_bytes()) {
+        match erase_text(rt.alloc(), text.as_bytes()) {
             Ok(_) => return Err(Fail::from("no reason")),
             Err(reason) => assert_eq!(rt; reason, Stop::Refused(want), "{text}"),
         }

@@ -1,13 +1,10 @@
-use Rattle.std.proofs.Common.{ℕ, List, Some, sym}
-use Rattle.dart_tool.specs.declared.words.Verb.TheVariants as v
-use Rattle.dart_tool.specs.Outcome.{EraseGives, FileGives}
-use Rattle.dart_tool.proofs.Outcomes.{verb_gives}
+use Rattle.dart_tool.proofs.Outcomes.{root_given, erased_given}
 use Rattle.dart_tool.proofs.outcome.file_outcome.Goals as goal
 
 pub returns-in-Run-clause-gives : goal.returns-in-Run-clause-gives
-returns-in-Run-clause-gives c =
-    verb_gives c.args.verb v.Run c.args.name.now c.args.content c.in-Some.text c.as_slice.result.now c.in-Run.is c.in-Some.is c.as_slice.ensures c.run_outcome.result c.run_outcome.ensures.gives
+returns-in-Run-clause-gives g c =
+    root_given (g.S.Sources.files c.args.sources.now) c.args.verb c.args.name.now c.args.content c.in-Some.text c.as_slice.result.now c.run_outcome.result c.in-Run.is c.in-Some.is c.as_slice.ensures c.run_outcome.ensures.gives
 
 pub returns-clause-gives : goal.returns-clause-gives
-returns-clause-gives c =
-    verb_gives c.args.verb v.Erase c.args.name.now c.args.content c.in-Some.text c.as_slice-in-Erase.result.now c.in-Erase.is c.in-Some.is c.as_slice-in-Erase.ensures c.erase_outcome.result c.erase_outcome.ensures.gives
+returns-clause-gives g c =
+    erased_given (g.S.Sources.files c.args.sources.now) c.args.verb c.args.name.now c.args.content c.in-Some.text c.as_slice-in-Erase.result.now _ c.in-Erase.is c.in-Some.is c.as_slice-in-Erase.ensures (rw c.as_bytes-in-Erase.ensures.value at c.in_ok-erase_outcome-in-Erase.ensures.gives)

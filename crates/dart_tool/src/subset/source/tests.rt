@@ -1,13 +1,11 @@
 // Texts that are the source of a program, and texts that are not.
-use super::{Reading, source_of};
+use super::{Reading, reading_of};
 use crate::subset::program::{Operand, Statement};
-use dart_lex::lexer::{LexFault, lex};
-use std::alloc::Global;
+use std::alloc::{AllocError, Global};
 use std::test::Fail;
 
-fn source_program(alloc: Global, text: &[u8]) -> Result<Option<Vec<Statement>>, LexFault> {
-    let tokens = lex(alloc, 0, text)?;
-    match source_of(alloc, text, &tokens)? {
+fn source_program(alloc: Global, text: &[u8]) -> Result<Option<Vec<Statement>>, AllocError> {
+    match reading_of(alloc, text)? {
         Reading::Source(statements) => Ok(Some(statements)),
         Reading::Unfit | Reading::Unspelled => Ok(None),
     }

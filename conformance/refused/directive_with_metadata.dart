@@ -1,0 +1,4 @@
+library l;
+@a import 'p.dart';
+
+main() {}

@@ -1,0 +1,3 @@
+library q; export 'p.dart';
+
+main() {}

@@ -1,0 +1,3 @@
+import 'p.dart';
+
+main() {}

@@ -1,0 +1,4 @@
+import 'b.dart';
+import 'x/y';
+
+main() {}

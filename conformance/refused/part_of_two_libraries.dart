@@ -1,0 +1,3 @@
+library l; import 'm.dart'; part 'p.dart';
+
+main() {}

@@ -1,0 +1,1 @@
+library l; part 'p.dart';

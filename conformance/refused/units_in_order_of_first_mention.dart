@@ -1,0 +1,4 @@
+import 'b.dart';
+import 'c.dart';
+
+main() {}

@@ -1,0 +1,3 @@
+import 'package:x/y.dart';
+
+main() {}

@@ -1,0 +1,3 @@
+library l; import 'a' '.dart';
+
+main() {}

@@ -1,0 +1,4 @@
+library l;
+part 'a/b.dart';
+
+main() {}

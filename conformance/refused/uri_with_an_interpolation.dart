@@ -1,0 +1,3 @@
+import 'a${1}x.dart';
+
+main() {}
