@@ -300,6 +300,10 @@ module _ (loose : ℕ) (n : ℕ) (signs : List Sign) (row : ℕ)
   abbrev stopped : Operand → Bool → List Token → Outcome Token (Open Operand)
   stopped x c mid = and_then (and_then (when c items_reader mid) (λ o z. Ok (((x, None), o), z))) (λ y z. Ok (joined y, z))
 
+  pub operand_kept : (x : Operand) → ((g : Place) → H.Fits (x, Some g)) → (g : Place) → chain_laws.Fits (x, Some g)
+  unfolding chain_laws
+  operand_kept x known g = (((x, Some g), None), (known g, tt), refl)
+
   pub operand_settled : (x : Operand) → F x → Settled H x → Settled chain_laws x
   unfolding chain chain_laws class_of
   operand_settled x fits (inl known) = inl (λ g. (((x, Some g), None), (known g, tt), refl))

@@ -204,6 +204,10 @@ module _ {A : Type 0} {read : Reader Token (Open A)} {tokens : A → List Token}
     laws = refront P.laws out into;
   }
 
+  pub restated_fits : {G : A → Type 0} {front' : Front Token} (forth : (x : A) → F x → G x) (back : (x : A) → G x → F x) (out : (ts : List Token) → front ts → front' ts) (into : (ts : List Token) → front' ts → front ts) (x : Open A) → P.Fits x → (open_restated forth back out into).Fits x
+  unfolding open_restated
+  restated_fits forth back out into x h = h
+
   pub restated_settled : {G : A → Type 0} {front' : Front Token} (forth : (x : A) → F x → G x) (back : (x : A) → G x → F x) (out : (ts : List Token) → front ts → front' ts) (into : (ts : List Token) → front' ts → front ts) (x : A) → Settled P x → Settled (open_restated forth back out into) x
   unfolding open_restated
   restated_settled forth back out into x h = h

@@ -1,16 +1,17 @@
 -- What is true of each operand of a row: an operator that is looser than the row may follow it, and it is not `super` alone.
-use Rattle.std.proofs.Common.{◌≡◌, ℕ, zero, suc, max, ◌+◌, ◌<◌, Bool, true, false, not, ◌&&◌, ◌||◌, List, [], ◌∷◌, None, Some, inl, inr, refl, ap, sym, ◌∙◌, subst, arith}
+use Rattle.std.proofs.Common.{◌≡◌, ℕ, zero, suc, max, ◌+◌, ◌<◌, Bool, true, false, not, ◌&&◌, ◌||◌, List, [], ◌∷◌, None, Some, inl, inr, refl, ap, sym, ◌∙◌, subst, arith, ◌⊎◌}
 use Rattle.std.specs.Prelude.{nat_lt}
 use Rattle.std.proofs.lemmas.Bool.{ltb-true, lt-ltb}
 use Rattle.dart_token.specs.declared.sign.Sign.TheVariants as s
 use Rattle.dart_tree.specs.declared.operator.Operator.{Operator}
 use Rattle.dart_tree.specs.Types.{TypeNode}
+use Rattle.dart_tree.specs.declared.expression.Atom.TheVariants as a
 use Rattle.dart_tree.specs.Tree as t
 use Rattle.dart_tree.specs.Tree.{Operand, Primary}
 use Rattle.dart_tree.specs.Tokens.{operand_tokens}
 use Rattle.grammar_laws.specs.Codes.{is_empty}
 use Rattle.grammar_laws.specs.Fronts.{BothFit, EachFit}
-use Rattle.grammar_laws.proofs.Codes.{and_true, or_left}
+use Rattle.grammar_laws.proofs.Codes.{and_true, or_left, clash}
 use Rattle.dart_syntax.specs.Phrases.{Phrase, ◌<|>◌, made}
 use Rattle.dart_syntax.specs.Leaves as l
 use Rattle.dart_syntax.specs.Edges.{dots, compares, nowhere, question, selects, repeats, leaves, leaves_less, binds_between, expr_takes, operand_takes, tails_take}
@@ -18,7 +19,7 @@ use Rattle.dart_syntax.specs.Expressions as g
 use Rattle.dart_syntax.specs.Levels.{level}
 use Rattle.dart_syntax.specs.Statements as gs
 use Rattle.dart_syntax.specs.Statements.{within}
-use Rattle.syntax_readers.specs.Levels.{is_bare}
+use Rattle.syntax_readers.specs.Levels.{is_bare, assigns}
 use Rattle.laws_expr.proofs.Comparing.{comparing_level, rest_level}
 use Rattle.laws_expr.proofs.Divided.{shift_level}
 use Rattle.laws_expr.proofs.Rows.{products, sums, conjunctions, exclusions, disjunctions, equalities, both_hold, one_holds}
@@ -130,6 +131,19 @@ module _ (inner : g.ExprNodes) (under : Phrase Operand) where
   row_not_bare g.choice x (parts, fits, is) = ap is_bare (sym is)
   row_not_bare g.no_row x fits = absurd fits
 
+  -- and none may be assigned to
+  row_no_target : (row : g.Row) (x : Operand) → (g.row_over row inner under).Fits x → assigns x ≡ false
+  row_no_target (g.chained sign more) x (parts, fits, is) = ap assigns (sym is)
+  row_no_target g.shifts x (parts, fits, is) = ap assigns (sym is)
+  row_no_target (g.single sign more) x (parts, fits, is) = ap assigns (sym is)
+  row_no_target g.comparison x (inl (parts, fits, is)) = ap assigns (sym is)
+  row_no_target g.comparison x (inr (inl (parts, fits, is))) = ap assigns (sym is)
+  row_no_target g.comparison x (inr (inr (inl (parts, fits, is)))) = ap assigns (sym is)
+  row_no_target g.comparison x (inr (inr (inr (parts, fits, is)))) = ap assigns (sym is)
+  row_no_target (g.logical sign) x (parts, fits, is) = ap assigns (sym is)
+  row_no_target g.choice x (parts, fits, is) = ap assigns (sym is)
+  row_no_target g.no_row x fits = absurd fits
+
 -- ---- postfix and unary expressions
 
 abbrev alone : Primary → Bool
@@ -213,3 +227,34 @@ pub bare_rises_at : (n : ℕ) (x : Operand) → ((within n).nodes.expr_nodes.bar
 unfolding gs.within gs.nodes_over
 bare_rises_at zero x fits next opens lt = absurd fits
 bare_rises_at (suc n) x (word, fits, is) next opens lt = subst (λ (y : Operand). operand_takes next opens next y ≡ true) is (primary_rises (t.bare_super word) next opens (omega (arith, lt)))
+
+-- ---- what may be assigned to is an operand of each row
+
+rows_target : (unary : Phrase Operand) (inner : g.ExprNodes) (under : ℕ → Phrase Operand) (i : ℕ) (x : Operand) → assigns x ≡ true → (g.rows_over unary inner under i).Fits x → unary.Fits x
+rows_target unary inner under zero x on fits = fits
+rows_target unary inner under (suc i) x on (inl fits) = rows_target unary inner under i x on fits
+rows_target unary inner under (suc i) x on (inr fits) = clash (assigns x) on (row_no_target inner (under i) (g.row_at g.rows i) x fits)
+
+pub target_down : (n i : ℕ) (x : Operand) → assigns x ≡ true → ((within n).levels.row i).Fits x → ((within n).levels.row 0).Fits x
+unfolding gs.within gs.nodes_over
+target_down zero i x on fits = fits
+target_down (suc n) i x on fits = rows_target ((made operand_tokens t.primary (g.primary_of (within (suc n)).nodes.expr_nodes) <|> g.postfix_over (within n).levels) <|> g.unary_over (within n).nodes.expr_nodes.bare (within n).levels) (within n).nodes.expr_nodes (within n).levels.row i x on fits
+
+leaves_shift : (x : Operand) → assigns x ≡ true → leaves 9 x ≡ true
+unfolding operand_takes
+leaves_shift (t.primary (t.atom (a.Name name))) on = refl
+leaves_shift (t.primary (t.super_access word selector)) on = refl
+leaves_shift (t.postfix x behind None) on = refl
+leaves_shift x on = absurd cc
+
+leaves_compared : (x : Operand) → assigns x ≡ true → leaves 5 x ≡ true
+unfolding operand_takes
+leaves_compared (t.primary (t.atom (a.Name name))) on = refl
+leaves_compared (t.primary (t.super_access word selector)) on = refl
+leaves_compared (t.postfix x behind None) on = refl
+leaves_compared x on = absurd cc
+
+-- and leaves each operator
+pub target_leaves : (next : ℕ) (x : Operand) → (next ≡ 9) ⊎ (next ≡ 5) → assigns x ≡ true → leaves next x ≡ true
+target_leaves next x (inl is) on = subst (λ (m : ℕ). leaves m x ≡ true) (sym is) (leaves_shift x on)
+target_leaves next x (inr is) on = subst (λ (m : ℕ). leaves m x ≡ true) (sym is) (leaves_compared x on)

@@ -1,5 +1,5 @@
 -- The rows of the grammar's table: each shape has one law.
-use Rattle.std.proofs.Common.{◌≡◌, ℕ, suc, ◌<◌, Bool, true, false, not, List, [], ◌∷◌, inl, inr, refl, ap, sym, subst, ◌∙◌}
+use Rattle.std.proofs.Common.{◌≡◌, ℕ, suc, ◌<◌, Bool, true, false, not, List, [], ◌∷◌, inl, inr, refl, ap, sym, subst, ◌∙◌, Some, ◌⊎◌, ◌&&◌}
 use Rattle.dart_token.specs.declared.token.Token.{Token}
 use Rattle.dart_token.specs.declared.sign.Sign.{Sign}
 use Rattle.dart_token.specs.declared.sign.Sign.TheVariants as s
@@ -30,12 +30,15 @@ use Rattle.laws_expr.specs.Nexts.{Taking, nexts, after_operand}
 use Rattle.laws_expr.proofs.Behind.{alone}
 use Rattle.laws_expr.proofs.Open.{OpenLaws, Settled}
 use Rattle.laws_expr.proofs.Edges.{at, codes_at, others_apart}
-use Rattle.laws_expr.proofs.Chain.{half_operand, chain_laws, operand_settled, node_settled}
+use Rattle.laws_expr.proofs.Chain.{half_operand, chain_laws, operand_settled, node_settled, operand_kept}
 use Rattle.laws_expr.proofs.Tails.{last_leaves}
-use Rattle.laws_expr.proofs.Once.{once_laws}
+use Rattle.laws_expr.proofs.Once.{once_laws, once_operand_settled}
 use Rattle.laws_expr.proofs.Shifts.{shift_laws}
 use Rattle.laws_expr.proofs.Shifts as sh
 use Rattle.laws_expr.proofs.Relational.{relational_laws}
+use Rattle.laws_expr.proofs.Relational as re
+use Rattle.grammar_laws.specs.Depth.{is_below}
+use Rattle.dart_base.specs.declared.place.Place.{Place}
 
 -- these signs are one row of the table of what goes on, and bind alike
 pub record IsRow (signs : List Sign) (loose row : ℕ) : Type 0 where
@@ -114,6 +117,12 @@ module _ {n : ℕ} (inner : ExprReaders) (nodes : g.ExprNodes) {here lower : Rea
       subst (Settled (chained_laws sign more row is again O)) e (node_settled (sign_level sign) n (sign ∷ more) row is.others is.own is.here is.apart_alone again (one_of_reads (sign ∷ more) is.distinct) is.leveled O.above lower O.below O.down O.up O.rise O.rises (λ z. leaves next z) low y all d on some
       (last_leaves next lt y all some.0 (subst (λ z. leaves next z ≡ true) (sym e) left)))
 
+  pub chained_kept : (sign : Sign) (more : List Sign) (row : ℕ) (is : IsRow (sign ∷ more) (sign_level sign) row) (again : repeats (sign_level sign) ≡ true)
+      (O : Operands n (sign_level sign) here lower F U (EitherFit U nodes.bare.Fits) front ufront (Either ufront nodes.bare.front) first ufirst) →
+      (x : Operand) → ((g : Place) → O.above.Fits (x, Some g)) → (g : Place) → (chained_laws sign more row is again O).Fits (x, Some g)
+  unfolding chained_laws row_over
+  chained_kept sign more row is again O x known g = operand_kept (sign_level sign) n (sign ∷ more) row is.others is.own is.here is.apart_alone again (one_of_reads (sign ∷ more) is.distinct) is.leveled O.above lower O.below O.down O.up O.rise O.rises x known g
+
   -- and without it
   pub logical_laws : (sign : Sign) (row : ℕ) → IsRow (sign ∷ []) (sign_level sign) row → repeats (sign_level sign) ≡ true →
       Operands n (sign_level sign) here lower F U U front ufront ufront first ufirst →
@@ -121,12 +130,22 @@ module _ {n : ℕ} (inner : ExprReaders) (nodes : g.ExprNodes) {here lower : Rea
   unfolding row_over
   logical_laws sign row is again O = chain_laws (sign_level sign) n (sign ∷ []) row is.others is.own is.here is.apart_alone again (one_of_reads (sign ∷ []) is.distinct) is.leveled O.above lower O.below O.down O.up O.rise O.rises
 
+  pub logical_kept : (sign : Sign) (row : ℕ) (is : IsRow (sign ∷ []) (sign_level sign) row) (again : repeats (sign_level sign) ≡ true) (O : Operands n (sign_level sign) here lower F U U front ufront ufront first ufirst) →
+      (x : Operand) → F x → Settled O.above x → Settled (logical_laws sign row is again O) x
+  unfolding logical_laws row_over
+  logical_kept sign row is again O x fits settled = operand_settled (sign_level sign) n (sign ∷ []) row is.others is.own is.here is.apart_alone again (one_of_reads (sign ∷ []) is.distinct) is.leveled O.above lower O.below O.down O.up O.rise O.rises x fits settled
+
   -- a row of one operator at most, behind which `super` alone is refused
   pub single_laws : (sign : Sign) (more : List Sign) (row : ℕ) → IsRow (sign ∷ more) (sign_level sign) row →
       Operands n (sign_level sign) here lower F U (EitherFit U nodes.bare.Fits) front ufront (Either ufront nodes.bare.front) first ufirst →
       OpenLaws (row_over n inner (g.single sign more) here lower) operand_tokens (GoodFit (EitherFit F (g.row_over (g.single sign more) nodes (operands U ufront)).Fits) (λ x. not (is_bare x))) (Either front (g.row_over (g.single sign more) nodes (operands U ufront)).front) first (after_operand (sign_level sign)) (half_operand (sign_level sign))
   unfolding row_over
   single_laws sign more row is O = once_laws (sign_level sign) n (sign ∷ more) row is.others is.own is.here is.apart_alone (one_of_reads (sign ∷ more) is.distinct) is.leveled O.above lower O.below O.down O.up O.rise O.rises
+
+  pub single_kept : (sign : Sign) (more : List Sign) (row : ℕ) (is : IsRow (sign ∷ more) (sign_level sign) row) (O : Operands n (sign_level sign) here lower F U (EitherFit U nodes.bare.Fits) front ufront (Either ufront nodes.bare.front) first ufirst) →
+      (x : Operand) → F x → is_bare x ≡ false → Settled O.above x → Settled (single_laws sign more row is O) x
+  unfolding single_laws row_over
+  single_kept sign more row is O x fits plain settled = once_operand_settled (sign_level sign) n (sign ∷ more) row is.others is.own is.here is.apart_alone (one_of_reads (sign ∷ more) is.distinct) is.leveled O.above lower O.below O.down O.up O.rise O.rises x fits plain settled
 
   -- shifts, where of a `>` behind an operand that leaves them it is known whether it is read with it
   pub shift_row_laws : (O : Operands n (sign_level s.ShiftLeft) here lower F U (EitherFit U nodes.bare.Fits) front ufront (Either ufront nodes.bare.front) first ufirst) →
@@ -144,14 +163,32 @@ module _ {n : ℕ} (inner : ExprReaders) (nodes : g.ExprNodes) {here lower : Rea
   shift_settled O decide decide_low next lt low high x (inr ((y, all), ((d, on), some), e)) left =
       subst (Settled (shift_row_laws O decide decide_low)) e (sh.node_settled n O.above decide lower O.below decide_low O.down O.up O.rise O.rises (λ z. leaves next z) low y all d on some (last_leaves next lt y all some.0 (subst (λ z. leaves next z ≡ true) (sym e) left)))
 
+  pub shift_kept : (O : Operands n (sign_level s.ShiftLeft) here lower F U (EitherFit U nodes.bare.Fits) front ufront (Either ufront nodes.bare.front) first ufirst)
+      (decide : (x : Operand) → F x → leaves (sign_level s.ShiftLeft) x ≡ true → Settled O.above x) (decide_low : (x : Operand) → U x → leaves (sign_level s.ShiftLeft) x ≡ true → Settled O.below x) →
+      (x : Operand) → F x → (is_below operand_height n x && leaves (sign_level s.ShiftLeft) x) ≡ true → (g : Place) → (shift_row_laws O decide decide_low).Fits (x, Some g)
+  unfolding shift_row_laws row_over
+  shift_kept O decide decide_low x fits on g = sh.operand_kept n O.above decide lower O.below decide_low O.down O.up O.rise O.rises x fits on g
+
 -- comparisons, likewise; their operands begin as any operand does, and `super` alone is never tested or cast
 module _ {n : ℕ} (inner : ExprReaders) (nodes : g.ExprNodes) {here lower : Reader Token (Open Operand)} {F U : Operand → Type 0} {front ufront : Front Token} {first : List ℕ} where
+  plain_of : (O : Operands n compares here lower F U (EitherFit U nodes.bare.Fits) front ufront (Either ufront nodes.bare.front) first operand_first) → ((x : Operand) → nodes.bare.Fits x → is_bare x ≡ true) → (x : Operand) → EitherFit U nodes.bare.Fits x → is_bare x ≡ false → U x
+  plain_of O bare_is x (inl fits) off = fits
+  plain_of O bare_is x (inr fits) off = clash (is_bare x) (bare_is x fits) off
+
   pub comparison_laws : (O : Operands n compares here lower F U (EitherFit U nodes.bare.Fits) front ufront (Either ufront nodes.bare.front) first operand_first) →
       ((x : Operand) → F x → leaves compares x ≡ true → Settled O.above x) → Laws class_of inner.type type_tokens nodes.type.Fits nodes.type.front type_first after_type false →
       ((x : Operand) → nodes.bare.Fits x → is_bare x ≡ true) → ((x : Operand) → U x → is_bare x ≡ false) → ((opens : TypeNode → Bool) (x : Operand) → F x → operand_takes compares opens compares x ≡ true) →
       OpenLaws (row_over n inner g.comparison here lower) operand_tokens (EitherFit F (g.row_over g.comparison nodes (operands U ufront)).Fits) (Either front (g.row_over g.comparison nodes (operands U ufront)).front) first (after_operand compares) (half_operand compares)
   unfolding row_over
-  comparison_laws O decide types bare_is plain_is rises = relational_laws n O.above decide types lower O.below O.down O.up O.rise plain (λ x fits. (inl fits, plain_is x fits)) (λ ts f. inl f) rises where
-    plain : (x : Operand) → EitherFit U nodes.bare.Fits x → is_bare x ≡ false → U x
-    plain x (inl fits) off = fits
-    plain x (inr fits) off = clash (is_bare x) (bare_is x fits) off
+  comparison_laws O decide types bare_is plain_is rises = relational_laws n O.above decide types lower O.below O.down O.up O.rise (plain_of O bare_is) (λ x fits. (inl fits, plain_is x fits)) (λ ts f. inl f) rises
+
+  -- an operand alone, read with its half, or left where there is no room for the node of a comparison
+  pub comparison_kept : (O : Operands n compares here lower F U (EitherFit U nodes.bare.Fits) front ufront (Either ufront nodes.bare.front) first operand_first)
+      (decide : (x : Operand) → F x → leaves compares x ≡ true → Settled O.above x) (types : Laws class_of inner.type type_tokens nodes.type.Fits nodes.type.front type_first after_type false)
+      (bare_is : (x : Operand) → nodes.bare.Fits x → is_bare x ≡ true) (plain_is : (x : Operand) → U x → is_bare x ≡ false) (rises : (opens : TypeNode → Bool) (x : Operand) → F x → operand_takes compares opens compares x ≡ true) →
+      (x : Operand) → Settled O.above x → ((g : Place) → O.above.Fits (x, Some g)) ⊎ (is_below operand_height n x ≡ false) → Settled (comparison_laws O decide types bare_is plain_is rises) x
+  unfolding comparison_laws row_over
+  comparison_kept O decide types bare_is plain_is rises x settled (inl known) = re.kept_settled n O.above decide types lower O.below O.down O.up O.rise (plain_of O bare_is) (λ y fits. (inl fits, plain_is y fits)) (λ ts f. inl f) rises x known
+  comparison_kept O decide types bare_is plain_is rises x (inl known) (inr none) = re.kept_settled n O.above decide types lower O.below O.down O.up O.rise (plain_of O bare_is) (λ y fits. (inl fits, plain_is y fits)) (λ ts f. inl f) rises x known
+  comparison_kept O decide types bare_is plain_is rises x (inr stays) (inr none) =
+      re.left_settled n O.above decide types lower O.below O.down O.up O.rise (plain_of O bare_is) (λ y fits. (inl fits, plain_is y fits)) (λ ts f. inl f) rises x stays (ap (λ (b : Bool). b && leaves compares x) none)

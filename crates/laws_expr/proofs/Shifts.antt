@@ -409,6 +409,11 @@ module _ (n : ℕ)
   abbrev stopped : Operand → Bool → List Token → Outcome Token (Open Operand)
   stopped x c mid = and_then (and_then (when c (shift_tails None lower) mid) (λ o z. Ok (((x, None), o), z))) (λ y z. Ok (joined y, z))
 
+  -- an operand with room for the node that leaves shifts is read with the half
+  pub operand_kept : (x : Operand) → F x → may_half x ≡ true → (g : Place) → shift_laws.Fits (x, Some g)
+  unfolding shift_laws
+  operand_kept x fits on g = (((x, Some g), None), (here_in x (Some g) fits on, refl), refl)
+
   pub operand_settled : (x : Operand) → F x → Settled H x → Settled shift_laws x
   unfolding shift shift_laws class_of
   operand_settled x fits settled = elim (halved_settled H may_half here_decided x fits (λ off. settled)) as (λ _. Settled shift_laws x) [

@@ -1,5 +1,5 @@
 -- The rows of the grammar's table at a depth: each over the row before it, and over the rows one node less deep.
-use Rattle.std.proofs.Common.{◌≡◌, ℕ, zero, suc, ◌-◌, ◌<◌, ◌⊎◌, Bool, true, false, not, List, [], ◌∷◌, ◌+◌, ◌∙◌, inl, inr, refl, ap, sym, arith}
+use Rattle.std.proofs.Common.{◌≡◌, ℕ, zero, suc, ◌-◌, ◌<◌, ◌⊎◌, Bool, true, false, not, List, [], ◌∷◌, ◌+◌, ◌∙◌, inl, inr, refl, ap, sym, arith, Some}
 use Rattle.dart_token.specs.declared.token.Token.{Token}
 use Rattle.dart_token.specs.declared.sign.Sign.TheVariants as s
 use Rattle.dart_tree.specs.Types.{TypeNode}
@@ -21,7 +21,7 @@ use Rattle.token_codes.specs.Codes.{class_of}
 use Rattle.syntax_readers.specs.Combinators.{Open}
 use Rattle.syntax_readers.specs.Types.{type_first}
 use Rattle.syntax_readers.specs.Primaries.{expr_first, operand_first}
-use Rattle.syntax_readers.specs.Levels.{whole, is_bare, row_over, rows_over}
+use Rattle.syntax_readers.specs.Levels.{whole, is_bare, row_over, rows_over, assigns}
 use Rattle.syntax_readers.specs.Statements.{stage}
 use Rattle.syntax_measures.specs.Relations.{ExprsRelate}
 use Rattle.syntax_measures.specs.Fronts.{Grows, grows}
@@ -29,12 +29,16 @@ use Rattle.syntax_measures.proofs.Grows.{grows_walk}
 use Rattle.syntax_measures.proofs.WalkLevels.{each_row_plain, walk_row}
 use Rattle.laws_type.specs.Nexts.{after_type}
 use Rattle.laws_expr.specs.Nexts.{after_operand, after_without}
-use Rattle.laws_expr.proofs.Open.{OpenLaws, Settled, open_restated, restated_settled}
+use Rattle.laws_expr.proofs.Open.{OpenLaws, Settled, open_restated, restated_settled, restated_fits}
 use Rattle.laws_expr.proofs.Chain.{half_operand}
-use Rattle.laws_expr.proofs.Once.{half_without, conditional_laws}
-use Rattle.laws_expr.proofs.Rows.{Operands, operands, products, sums, conjunctions, exclusions, disjunctions, equalities, both_hold, one_holds, chained_laws, chained_settled, logical_laws, single_laws, shift_row_laws, shift_settled, comparison_laws}
+use Rattle.laws_expr.proofs.Once.{half_without, conditional_laws, choice_operand_settled}
+use Rattle.laws_expr.proofs.Rows.{Operands, operands, products, sums, conjunctions, exclusions, disjunctions, equalities, both_hold, one_holds, chained_laws, chained_settled, logical_laws, single_laws, shift_row_laws, shift_settled, comparison_laws, chained_kept, shift_kept, single_kept, logical_kept, comparison_kept}
 use Rattle.laws_expr.proofs.Depths.{row_of, bare_of, RowFits, row_front, down_at, up_at, rise_at, row_down, row_up, row_rise}
-use Rattle.laws_expr.proofs.Rising.{rising_at, bare_rises_at, not_bare_at, bare_at}
+use Rattle.laws_expr.proofs.Rising.{rising_at, bare_rises_at, not_bare_at, bare_at, target_down, target_leaves}
+use Rattle.grammar_laws.proofs.Codes.{and_true}
+use Rattle.grammar_laws.specs.Depth.{is_below}
+use Rattle.dart_tree.specs.Depth.{operand_height}
+use Rattle.dart_base.specs.declared.place.Place.{Place}
 
 -- ---- the same phrases, with the tokens that their trees have
 
@@ -308,3 +312,65 @@ module _ (n : ℕ) where
           pub r11 : PlainLaws 11 question
           unfolding rows_over row_over
           r11 = open_restated (conditional_laws (suc n) W r10 (row_down n 10) (row_up n 10) (row_rise n 10) (λ x fits. rising_at (suc n) 10 x fits question opens_nothing (omega arith))) (plain_forth 10) (plain_back 10) (plain_out 10) (plain_into 10)
+
+          -- ---- a `>` behind what may be assigned to is given as a half with it at the last row, or stopped before
+
+          module _ (x : Operand) (fits : (row_of (suc n) 0).Fits x) (on : assigns x ≡ true) where
+            row_here : (i : ℕ) → (row_of (suc n) i).Fits x
+            row_here zero = fits
+            row_here (suc i) = plain_forth i x (inl (row_here i))
+
+            abbrev shifted : OpenLaws (row_over (suc n) (stage n).nodes.exprs g.shifts (read 2) ((stage n).levels.row 2)) operand_tokens (EitherFit (RowFits (suc n) 2) (g.row_over g.shifts (nodes_at n) (under_at n 2)).Fits) (Either (row_front (suc n) 2) (g.row_over g.shifts (nodes_at n) (under_at n 2)).front) operand_first (after_operand 9) (half_operand 9)
+            shifted = shift_row_laws (stage n).nodes.exprs (nodes_at n) (operands_at 2 9 (omega arith) r2 (lower 2)) (λ y. settled2 9 (inl refl) y) (λ y. settled_low 2 9 (inl refl) y)
+
+            kept3 : is_below operand_height (suc n) x ≡ true → (g : Place) → r3.Fits (x, Some g)
+            unfolding r3 rows_over
+            kept3 room g = restated_fits shifted (next_forth 2) (next_back 2) (next_out 2) (next_into 2) (x, Some g)
+                (shift_kept (stage n).nodes.exprs (nodes_at n) (operands_at 2 9 (omega arith) r2 (lower 2)) (λ y. settled2 9 (inl refl) y) (λ y. settled_low 2 9 (inl refl) y) x (inl (row_here 2)) (and_true (is_below operand_height (suc n) x) (leaves 9 x) room (target_leaves 9 x (inl refl) on)) g)
+
+            kept4 : is_below operand_height (suc n) x ≡ true → (g : Place) → r4.Fits (x, Some g)
+            unfolding r4 rows_over
+            kept4 room g = restated_fits (chained_laws (stage n).nodes.exprs (nodes_at n) s.Ampersand [] 9 conjunctions refl (operands_at 3 8 (omega arith) r3 (lower 3))) (next_forth 3) (next_back 3) (next_out 3) (next_into 3) (x, Some g)
+                (chained_kept (stage n).nodes.exprs (nodes_at n) s.Ampersand [] 9 conjunctions refl (operands_at 3 8 (omega arith) r3 (lower 3)) x (kept3 room) g)
+
+            kept5 : is_below operand_height (suc n) x ≡ true → (g : Place) → r5.Fits (x, Some g)
+            unfolding r5 rows_over
+            kept5 room g = restated_fits (chained_laws (stage n).nodes.exprs (nodes_at n) s.Caret [] 8 exclusions refl (operands_at 4 7 (omega arith) r4 (lower 4))) (next_forth 4) (next_back 4) (next_out 4) (next_into 4) (x, Some g)
+                (chained_kept (stage n).nodes.exprs (nodes_at n) s.Caret [] 8 exclusions refl (operands_at 4 7 (omega arith) r4 (lower 4)) x (kept4 room) g)
+
+            kept6 : is_below operand_height (suc n) x ≡ true → (g : Place) → r6.Fits (x, Some g)
+            unfolding r6 rows_over
+            kept6 room g = restated_fits (chained_laws (stage n).nodes.exprs (nodes_at n) s.Bar [] 7 disjunctions refl (operands_at 5 6 (omega arith) r5 (lower 5))) (next_forth 5) (next_back 5) (next_out 5) (next_into 5) (x, Some g)
+                (chained_kept (stage n).nodes.exprs (nodes_at n) s.Bar [] 7 disjunctions refl (operands_at 5 6 (omega arith) r5 (lower 5)) x (kept5 room) g)
+
+            kept_or_full : (b : Bool) → is_below operand_height (suc n) x ≡ b → ((g : Place) → r6.Fits (x, Some g)) ⊎ (is_below operand_height (suc n) x ≡ false)
+            kept_or_full true e = inl (kept6 e)
+            kept_or_full false e = inr e
+
+            target7 : Settled r7 x
+            unfolding r7 rows_over
+            target7 = raised_settled 6 5 (comparison_laws (stage n).nodes.exprs (nodes_at n) (operands_at 6 5 (omega arith) r6 (lower 6)) (λ y. settled6 5 (inr refl) y) types (bare_at n) (not_bare_at n 6) (λ opens y known. rises_at 6 5 y known opens (omega arith))) x
+                (comparison_kept (stage n).nodes.exprs (nodes_at n) (operands_at 6 5 (omega arith) r6 (lower 6)) (λ y. settled6 5 (inr refl) y) types (bare_at n) (not_bare_at n 6) (λ opens y known. rises_at 6 5 y known opens (omega arith)) x (settled6 9 (inl refl) x (inl (row_here 6)) (target_leaves 9 x (inl refl) on)) (kept_or_full (is_below operand_height (suc n) x) refl))
+
+            target8 : Settled r8 x
+            unfolding r8 rows_over
+            target8 = restated_settled (single_laws (stage n).nodes.exprs (nodes_at n) s.EqualEqual (s.NotEqual ∷ []) 4 equalities (operands_at 7 4 (omega arith) r7 (lower 7))) (whole_forth 7) (whole_back 7) (whole_out 7) (whole_into 7) x
+                (single_kept (stage n).nodes.exprs (nodes_at n) s.EqualEqual (s.NotEqual ∷ []) 4 equalities (operands_at 7 4 (omega arith) r7 (lower 7)) x (inl (row_here 7)) (not_bare_at (suc n) 0 x fits) target7)
+
+            target9 : Settled r9 x
+            unfolding r9 rows_over
+            target9 = restated_settled (logical_laws (stage n).nodes.exprs (nodes_at n) s.AndAnd 3 both_hold refl (plain_operands 8 3 (omega arith) r8 (lower 8))) (plain_forth 8) (plain_back 8) (plain_out 8) (plain_into 8) x
+                (logical_kept (stage n).nodes.exprs (nodes_at n) s.AndAnd 3 both_hold refl (plain_operands 8 3 (omega arith) r8 (lower 8)) x (row_here 8) target8)
+
+            target10 : Settled r10 x
+            unfolding r10 rows_over
+            target10 = restated_settled (logical_laws (stage n).nodes.exprs (nodes_at n) s.OrOr 2 one_holds refl (plain_operands 9 2 (omega arith) r9 (lower 9))) (plain_forth 9) (plain_back 9) (plain_out 9) (plain_into 9) x
+                (logical_kept (stage n).nodes.exprs (nodes_at n) s.OrOr 2 one_holds refl (plain_operands 9 2 (omega arith) r9 (lower 9)) x (row_here 9) target9)
+
+            pub target11 : Settled r11 x
+            unfolding r11 rows_over row_over
+            target11 = restated_settled (conditional_laws (suc n) W r10 (row_down n 10) (row_up n 10) (row_rise n 10) (λ y known. rising_at (suc n) 10 y known question opens_nothing (omega arith))) (plain_forth 10) (plain_back 10) (plain_out 10) (plain_into 10) x
+                (choice_operand_settled (suc n) W r10 (row_down n 10) (row_up n 10) (row_rise n 10) (λ y known. rising_at (suc n) 10 y known question opens_nothing (omega arith)) x (row_here 10) target10)
+
+          pub target_settled : (x : Operand) → (row_of (suc n) 11).Fits x → assigns x ≡ true → Settled r11 x
+          target_settled x fits on = target11 x (target_down (suc n) 11 x on fits) on
