@@ -46,3 +46,5 @@ pub mod Depths
 pub mod Table
 pub mod Primary
 pub mod Heads
+pub mod Floor
+pub mod Nodes

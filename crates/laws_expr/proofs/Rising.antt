@@ -230,10 +230,10 @@ bare_rises_at (suc n) x (word, fits, is) next opens lt = subst (λ (y : Operand)
 
 -- ---- what may be assigned to is an operand of each row
 
-rows_target : (unary : Phrase Operand) (inner : g.ExprNodes) (under : ℕ → Phrase Operand) (i : ℕ) (x : Operand) → assigns x ≡ true → (g.rows_over unary inner under i).Fits x → unary.Fits x
-rows_target unary inner under zero x on fits = fits
-rows_target unary inner under (suc i) x on (inl fits) = rows_target unary inner under i x on fits
-rows_target unary inner under (suc i) x on (inr fits) = clash (assigns x) on (row_no_target inner (under i) (g.row_at g.rows i) x fits)
+rows_target : (least : Phrase Operand) (inner : g.ExprNodes) (under : ℕ → Phrase Operand) (i : ℕ) (x : Operand) → assigns x ≡ true → (g.rows_over least inner under i).Fits x → least.Fits x
+rows_target least inner under zero x on fits = fits
+rows_target least inner under (suc i) x on (inl fits) = rows_target least inner under i x on fits
+rows_target least inner under (suc i) x on (inr fits) = clash (assigns x) on (row_no_target inner (under i) (g.row_at g.rows i) x fits)
 
 pub target_down : (n i : ℕ) (x : Operand) → assigns x ≡ true → ((within n).levels.row i).Fits x → ((within n).levels.row 0).Fits x
 unfolding gs.within gs.nodes_over

@@ -89,7 +89,7 @@ after_selected (t.primary x) = taken (λ next opens. operand_takes next opens 12
 after_selected x = taken (λ next opens. operand_takes next opens 12 x)
 
 -- a primary as an operand
-primary_on : (x : Primary) → Within (after_primary x) (after_selected (t.primary x))
+pub primary_on : (x : Primary) → Within (after_primary x) (after_selected (t.primary x))
 primary_on x =
     let takes : Taking = λ next opens. operand_takes next opens 12 (t.primary x) in
     within_union (within_then (taken_moves nexts (λ next opens. operand_takes next opens nowhere (t.primary x)) takes (λ n opens h. operand_moves n opens (t.primary x) nowhere 12 (inl (omega arith)) h)) (within_left (taken takes) (primary_alone x)))
@@ -108,7 +108,7 @@ selected_on (t.is_type x word bang of) = within_left (taken (λ next opens. oper
 selected_on (t.as_type x word of) = within_left (taken (λ next opens. operand_takes next opens 12 (t.as_type x word of))) (operand_alone (t.as_type x word of))
 selected_on (t.prefix operator x) = within_left (taken (λ next opens. operand_takes next opens 12 (t.prefix operator x))) (operand_alone (t.prefix operator x))
 
-primary_on_half : (x : Primary) → Within (half_primary x) (half_operand 12 (t.primary x))
+pub primary_on_half : (x : Primary) → Within (half_primary x) (half_operand 12 (t.primary x))
 unfolding operand_alone
 primary_on_half x =
     let takes : Taking = λ next opens. operand_takes next opens 12 (t.primary x) in

@@ -45,10 +45,10 @@ use Rattle.dart_base.specs.declared.place.Place.{Place}
 abbrev pub plainly : {A : Type 0} → (A → List Token) → Phrase A → Phrase A
 plainly tokens p = record { spelling = tokens; Fits = p.Fits; front = p.front }
 
-to_plain : {A : Type 0} {tokens : A → List Token} {p : Phrase A} → Agrees tokens p → Grows p (plainly tokens p)
+pub to_plain : {A : Type 0} {tokens : A → List Token} {p : Phrase A} → Agrees tokens p → Grows p (plainly tokens p)
 to_plain P = record { same = P.spells; fits = λ a fits. fits; begins = λ ts f. f }
 
-from_plain : {A : Type 0} {tokens : A → List Token} {p : Phrase A} → Agrees tokens p → Grows (plainly tokens p) p
+pub from_plain : {A : Type 0} {tokens : A → List Token} {p : Phrase A} → Agrees tokens p → Grows (plainly tokens p) p
 from_plain P = record { same = λ a. sym (P.spells a); fits = λ a fits. fits; begins = λ ts f. f }
 
 -- what stands inside
@@ -79,7 +79,7 @@ module _ (n : ℕ) where
   abbrev nodes : g.ExprNodes
   nodes = (within n).nodes.expr_nodes
 
-  nodes_from : ExprsRelate grows (nodes_at n) nodes
+  pub nodes_from : ExprsRelate grows (nodes_at n) nodes
   nodes_from =
       let A = (within_agrees n).nodes.expr_nodes in
       record {
@@ -94,7 +94,7 @@ module _ (n : ℕ) where
         block = from_plain A.block;
       }
 
-  nodes_to : ExprsRelate grows nodes (nodes_at n)
+  pub nodes_to : ExprsRelate grows nodes (nodes_at n)
   nodes_to =
       let A = (within_agrees n).nodes.expr_nodes in
       record {
