@@ -1,6 +1,6 @@
 -- That a tree closes each bracket that it opens, and no other, and that what begins one closes none but those: this goes with the words
 -- of the phrases.
-use Rattle.std.proofs.Common.{◌≡◌, ℕ, suc, ◌+◌, arith, Bool, true, false, List, [], ◌∷◌, ◌++◌, Option, None, Some, inl, inr, refl, sym, ap, ap₂, ◌∙◌, ◌⊎◌, subst, append_assoc, flat_map}
+use Rattle.std.proofs.Common.{◌≡◌, ℕ, suc, arith, Bool, true, false, List, [], ◌∷◌, ◌++◌, Option, None, Some, inl, inr, refl, sym, ap, ap₂, ◌∙◌, ◌⊎◌, subst, append_assoc, flat_map}
 use Rattle.std.specs.List.{AllByRecursion}
 use Rattle.dart_base.specs.declared.place.Place.{Place}
 use Rattle.dart_token.specs.declared.token.Token.{Token}

@@ -1,5 +1,5 @@
 -- Where there is no room for a node: nothing is read of what has one, and an operand of each row is a primary.
-use Rattle.std.proofs.Common.{◌≡◌, ℕ, ◌-◌, not, false, List, [], None, Some, inl, inr, refl, ap, sym, ◌∙◌, arith, true, Ok, subst}
+use Rattle.std.proofs.Common.{◌≡◌, ℕ, ◌-◌, not, false, List, None, Some, inl, inr, refl, ap, sym, ◌∙◌, arith, true, Ok, subst}
 use Rattle.dart_base.specs.declared.place.Place.{Place}
 use Rattle.dart_token.specs.declared.token.Token.{Token}
 use Rattle.dart_token.specs.declared.sign.Sign.TheVariants as s

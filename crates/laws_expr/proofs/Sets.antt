@@ -1,5 +1,5 @@
 -- Sets of codes: which have none in common, and which are within which.
-use Rattle.std.proofs.Common.{◌≡◌, ℕ, Bool, true, false, not, List, [], ◌++◌, inl, inr, refl}
+use Rattle.std.proofs.Common.{◌≡◌, ℕ, Bool, true, false, not, List, ◌++◌, inl, inr, refl}
 use Rattle.grammar_laws.specs.Codes.{has, given, Apart, Within}
 use Rattle.grammar_laws.proofs.Codes.{apart_none, clash, has_cases, not_true, within_given, within_self}
 

@@ -11,9 +11,8 @@ use Rattle.grammar_laws.specs.Fronts.{Either, EitherFit, GoodFit}
 use Rattle.grammar_laws.specs.Laws.{Laws}
 use Rattle.dart_syntax.specs.Phrases.{Phrase}
 use Rattle.dart_syntax.specs.Agreement.{Agrees, section_tokens}
-use Rattle.dart_syntax.specs.Edges.{compares, nowhere, question, leaves, opens_nothing, operand_takes}
+use Rattle.dart_syntax.specs.Edges.{nowhere, question, leaves, opens_nothing, operand_takes}
 use Rattle.dart_syntax.specs.Expressions as g
-use Rattle.dart_syntax.specs.Levels.{sign_level}
 use Rattle.dart_syntax.specs.Statements as gs
 use Rattle.dart_syntax.specs.Statements.{within}
 use Rattle.dart_syntax.proofs.AgreeingStages.{within_agrees}
