@@ -28,7 +28,7 @@ use Rattle.syntax_measures.proofs.Grows.{grows_walk}
 use Rattle.syntax_measures.proofs.WalkLevels.{each_row_plain, walk_row}
 use Rattle.laws_type.specs.Nexts.{after_type}
 use Rattle.laws_expr.specs.Nexts.{after_operand, after_without}
-use Rattle.laws_expr.proofs.Open.{OpenLaws, Settled, open_restated, restated_settled, restated_fits}
+use Rattle.laws_expr.proofs.Open.{OpenLaws, Settled, open_restated, restated_settled, restated_fits, open_checked_laws, checked_settled}
 use Rattle.laws_expr.proofs.Chain.{half_operand}
 use Rattle.laws_expr.proofs.Once.{half_without, conditional_laws, choice_operand_settled}
 use Rattle.laws_expr.proofs.Rows.{Operands, operands, products, sums, conjunctions, exclusions, disjunctions, equalities, both_hold, one_holds, chained_laws, chained_settled, logical_laws, single_laws, shift_row_laws, shift_settled, comparison_laws, chained_kept, shift_kept, single_kept, logical_kept, comparison_kept}
@@ -194,10 +194,37 @@ module _ (n : ℕ) where
   rises_at i next x (inl fits) opens lt = rising_at (suc n) i x fits next opens (omega (arith, lt))
   rises_at i next x (inr fits) opens lt = bare_rises_at (suc n) x fits next opens (omega (arith, lt))
 
+  -- ---- a row where `super` alone is refused
+
+  module _ (i : ℕ) where
+    clean_forth : (x : Operand) → GoodFit (RowFits (suc n) i) (λ y. not (is_bare y)) x → (row_of (suc n) i).Fits x
+    clean_forth x (inl fits, good) = fits
+    clean_forth x (inr bare, good) = let bad : false ≡ true = sym (ap not (bare_at (suc n) x bare)) ∙ good in absurd cc
+
+    clean_back : (x : Operand) → (row_of (suc n) i).Fits x → GoodFit (RowFits (suc n) i) (λ y. not (is_bare y)) x
+    clean_back x fits = (inl fits, ap not (not_bare_at (suc n) i x fits))
+
+    clean_out : (ts : List Token) → row_front (suc n) i ts → (row_of (suc n) i).front ts
+    clean_out ts (inl f) = f
+    clean_out ts (inr f) = bare_begins i ts f
+
+  module _ (i : ℕ) {q : Reader Token (Open Operand)} {next half : Operand → List ℕ} where
+    whole_row : OpenLaws q operand_tokens (RowFits (suc n) i) (row_front (suc n) i) operand_first next half → OpenLaws (whole q) operand_tokens (row_of (suc n) i).Fits (row_of (suc n) i).front operand_first next half
+    unfolding whole
+    whole_row P = open_restated (open_checked_laws P (λ y. not (is_bare y))) (clean_forth i) (clean_back i) (clean_out i) (λ ts f. inl f)
+
+    whole_settled : (P : OpenLaws q operand_tokens (RowFits (suc n) i) (row_front (suc n) i) operand_first next half) (x : Operand) → (row_of (suc n) i).Fits x → Settled P x → Settled (whole_row P) x
+    unfolding whole whole_row
+    whole_settled P x fits settled = restated_settled (open_checked_laws P (λ y. not (is_bare y))) (clean_forth i) (clean_back i) (clean_out i) (λ ts f. inl f) x (checked_settled P (λ y. not (is_bare y)) x (ap not (not_bare_at (suc n) i x fits)) settled)
+
+    whole_plain : OpenLaws q operand_tokens (row_of (suc n) i).Fits (row_of (suc n) i).front operand_first next half → OpenLaws (whole q) operand_tokens (row_of (suc n) i).Fits (row_of (suc n) i).front operand_first next half
+    unfolding whole
+    whole_plain P = open_restated (open_checked_laws P (λ y. not (is_bare y))) (λ x fits. fits.0) (λ x fits. (fits, ap not (not_bare_at (suc n) i x fits))) (λ ts f. f) (λ ts f. f)
+
   -- ---- the rows, one after the other
 
   module _ {unary : Reader Token (Open Operand)} (r0 : OpenLaws unary operand_tokens (RowFits (suc n) 0) (row_front (suc n) 0) operand_first (after_operand 12) (half_operand 12))
-      (lower : (i : ℕ) → OpenLaws (whole ((stage n).levels.row i)) operand_tokens (row_of n i).Fits (row_of n i).front operand_first (after_operand (12 - i)) (half_operand (12 - i))) where
+      (lower : (i : ℕ) → i < 12 → OpenLaws (whole ((stage n).levels.row i)) operand_tokens (row_of n i).Fits (row_of n i).front operand_first (after_operand (12 - i)) (half_operand (12 - i))) where
     abbrev pub read : ℕ → Reader Token (Open Operand)
     read i = rows_over (suc n) (stage n).nodes.exprs unary (stage n).levels.row i
 
@@ -226,6 +253,10 @@ module _ (n : ℕ) where
     asked_below next (inl is) = omega (arith, is)
     asked_below next (inr is) = omega (arith, is)
 
+    -- a row as the nodes above it have its operands
+    abbrev pub LowAt : ℕ → Type 1
+    LowAt i = OpenLaws (whole (read i)) operand_tokens (row_of (suc n) i).Fits (row_of (suc n) i).front operand_first (after_operand (12 - i)) (half_operand (12 - i))
+
     -- the row that has these nodes besides
     abbrev raised : (i from : ℕ) {q : Reader Token (Open Operand)} → OpenLaws q operand_tokens (EitherFit (RowFits (suc n) i) (node_at n i).Fits) (Either (row_front (suc n) i) (node_at n i).front) operand_first (after_operand from) (half_operand from) →
         OpenLaws q operand_tokens (RowFits (suc n) (suc i)) (row_front (suc n) (suc i)) operand_first (after_operand from) (half_operand from)
@@ -235,82 +266,108 @@ module _ (n : ℕ) where
     raised_settled i from P x settled = restated_settled P (next_forth i) (next_back i) (next_out i) (next_into i) x settled
 
     module _ (settled0 : (next : ℕ) → Asked next → (x : Operand) → RowFits (suc n) 0 x → leaves next x ≡ true → Settled r0 x)
-        (settled_low : (i next : ℕ) → Asked next → (x : Operand) → (row_of n i).Fits x → leaves next x ≡ true → Settled (lower i) x) where
+        (settled_low : (i : ℕ) (lt : i < 12) → i < 6 → (next : ℕ) → Asked next → (x : Operand) → (row_of n i).Fits x → leaves next x ≡ true → Settled (lower i lt) x) where
       pub r1 : RowLaws 1 11
       unfolding rows_over
-      r1 = raised 0 11 (chained_laws (stage n).nodes.exprs (nodes_at n) s.Star (s.Slash ∷ s.TildeSlash ∷ s.Percent ∷ []) 12 products refl (operands_at 0 11 (omega arith) r0 (lower 0)))
+      r1 = raised 0 11 (chained_laws (stage n).nodes.exprs (nodes_at n) s.Star (s.Slash ∷ s.TildeSlash ∷ s.Percent ∷ []) 12 products refl (operands_at 0 11 (omega arith) r0 (lower 0 (omega arith))))
 
       pub settled1 : (next : ℕ) → Asked next → (x : Operand) → RowFits (suc n) 1 x → leaves next x ≡ true → Settled r1 x
       unfolding rows_over r1
-      settled1 next asked x fits left = raised_settled 0 11 (chained_laws (stage n).nodes.exprs (nodes_at n) s.Star (s.Slash ∷ s.TildeSlash ∷ s.Percent ∷ []) 12 products refl (operands_at 0 11 (omega arith) r0 (lower 0))) x
-          (chained_settled (stage n).nodes.exprs (nodes_at n) s.Star (s.Slash ∷ s.TildeSlash ∷ s.Percent ∷ []) 12 products refl (operands_at 0 11 (omega arith) r0 (lower 0)) next (asked_below next asked) (λ y. settled_low 0 next asked y) (λ y. settled0 next asked y) x (next_back 0 x fits) left)
+      settled1 next asked x fits left = raised_settled 0 11 (chained_laws (stage n).nodes.exprs (nodes_at n) s.Star (s.Slash ∷ s.TildeSlash ∷ s.Percent ∷ []) 12 products refl (operands_at 0 11 (omega arith) r0 (lower 0 (omega arith)))) x
+          (chained_settled (stage n).nodes.exprs (nodes_at n) s.Star (s.Slash ∷ s.TildeSlash ∷ s.Percent ∷ []) 12 products refl (operands_at 0 11 (omega arith) r0 (lower 0 (omega arith))) next (asked_below next asked) (λ y. settled_low 0 (omega arith) (omega arith) next asked y) (λ y. settled0 next asked y) x (next_back 0 x fits) left)
 
       pub r2 : RowLaws 2 10
       unfolding rows_over
-      r2 = raised 1 10 (chained_laws (stage n).nodes.exprs (nodes_at n) s.Plus (s.Minus ∷ []) 11 sums refl (operands_at 1 10 (omega arith) r1 (lower 1)))
+      r2 = raised 1 10 (chained_laws (stage n).nodes.exprs (nodes_at n) s.Plus (s.Minus ∷ []) 11 sums refl (operands_at 1 10 (omega arith) r1 (lower 1 (omega arith))))
 
       pub settled2 : (next : ℕ) → Asked next → (x : Operand) → RowFits (suc n) 2 x → leaves next x ≡ true → Settled r2 x
       unfolding rows_over r2
-      settled2 next asked x fits left = raised_settled 1 10 (chained_laws (stage n).nodes.exprs (nodes_at n) s.Plus (s.Minus ∷ []) 11 sums refl (operands_at 1 10 (omega arith) r1 (lower 1))) x
-          (chained_settled (stage n).nodes.exprs (nodes_at n) s.Plus (s.Minus ∷ []) 11 sums refl (operands_at 1 10 (omega arith) r1 (lower 1)) next (asked_below next asked) (λ y. settled_low 1 next asked y) (λ y. settled1 next asked y) x (next_back 1 x fits) left)
+      settled2 next asked x fits left = raised_settled 1 10 (chained_laws (stage n).nodes.exprs (nodes_at n) s.Plus (s.Minus ∷ []) 11 sums refl (operands_at 1 10 (omega arith) r1 (lower 1 (omega arith)))) x
+          (chained_settled (stage n).nodes.exprs (nodes_at n) s.Plus (s.Minus ∷ []) 11 sums refl (operands_at 1 10 (omega arith) r1 (lower 1 (omega arith))) next (asked_below next asked) (λ y. settled_low 1 (omega arith) (omega arith) next asked y) (λ y. settled1 next asked y) x (next_back 1 x fits) left)
 
       pub r3 : RowLaws 3 9
       unfolding rows_over
-      r3 = raised 2 9 (shift_row_laws (stage n).nodes.exprs (nodes_at n) (operands_at 2 9 (omega arith) r2 (lower 2)) (λ y. settled2 9 (inl refl) y) (λ y. settled_low 2 9 (inl refl) y))
+      r3 = raised 2 9 (shift_row_laws (stage n).nodes.exprs (nodes_at n) (operands_at 2 9 (omega arith) r2 (lower 2 (omega arith))) (λ y. settled2 9 (inl refl) y) (λ y. settled_low 2 (omega arith) (omega arith) 9 (inl refl) y))
 
       pub settled3 : (next : ℕ) → Asked next → (x : Operand) → RowFits (suc n) 3 x → leaves next x ≡ true → Settled r3 x
       unfolding rows_over r3
-      settled3 next asked x fits left = raised_settled 2 9 (shift_row_laws (stage n).nodes.exprs (nodes_at n) (operands_at 2 9 (omega arith) r2 (lower 2)) (λ y. settled2 9 (inl refl) y) (λ y. settled_low 2 9 (inl refl) y)) x
-          (shift_settled (stage n).nodes.exprs (nodes_at n) (operands_at 2 9 (omega arith) r2 (lower 2)) (λ y. settled2 9 (inl refl) y) (λ y. settled_low 2 9 (inl refl) y) next (asked_below next asked) (λ y. settled_low 2 next asked y) (λ y. settled2 next asked y) x (next_back 2 x fits) left)
+      settled3 next asked x fits left = raised_settled 2 9 (shift_row_laws (stage n).nodes.exprs (nodes_at n) (operands_at 2 9 (omega arith) r2 (lower 2 (omega arith))) (λ y. settled2 9 (inl refl) y) (λ y. settled_low 2 (omega arith) (omega arith) 9 (inl refl) y)) x
+          (shift_settled (stage n).nodes.exprs (nodes_at n) (operands_at 2 9 (omega arith) r2 (lower 2 (omega arith))) (λ y. settled2 9 (inl refl) y) (λ y. settled_low 2 (omega arith) (omega arith) 9 (inl refl) y) next (asked_below next asked) (λ y. settled_low 2 (omega arith) (omega arith) next asked y) (λ y. settled2 next asked y) x (next_back 2 x fits) left)
 
       pub r4 : RowLaws 4 8
       unfolding rows_over
-      r4 = raised 3 8 (chained_laws (stage n).nodes.exprs (nodes_at n) s.Ampersand [] 9 conjunctions refl (operands_at 3 8 (omega arith) r3 (lower 3)))
+      r4 = raised 3 8 (chained_laws (stage n).nodes.exprs (nodes_at n) s.Ampersand [] 9 conjunctions refl (operands_at 3 8 (omega arith) r3 (lower 3 (omega arith))))
 
       pub settled4 : (next : ℕ) → Asked next → (x : Operand) → RowFits (suc n) 4 x → leaves next x ≡ true → Settled r4 x
       unfolding rows_over r4
-      settled4 next asked x fits left = raised_settled 3 8 (chained_laws (stage n).nodes.exprs (nodes_at n) s.Ampersand [] 9 conjunctions refl (operands_at 3 8 (omega arith) r3 (lower 3))) x
-          (chained_settled (stage n).nodes.exprs (nodes_at n) s.Ampersand [] 9 conjunctions refl (operands_at 3 8 (omega arith) r3 (lower 3)) next (asked_below next asked) (λ y. settled_low 3 next asked y) (λ y. settled3 next asked y) x (next_back 3 x fits) left)
+      settled4 next asked x fits left = raised_settled 3 8 (chained_laws (stage n).nodes.exprs (nodes_at n) s.Ampersand [] 9 conjunctions refl (operands_at 3 8 (omega arith) r3 (lower 3 (omega arith)))) x
+          (chained_settled (stage n).nodes.exprs (nodes_at n) s.Ampersand [] 9 conjunctions refl (operands_at 3 8 (omega arith) r3 (lower 3 (omega arith))) next (asked_below next asked) (λ y. settled_low 3 (omega arith) (omega arith) next asked y) (λ y. settled3 next asked y) x (next_back 3 x fits) left)
 
       pub r5 : RowLaws 5 7
       unfolding rows_over
-      r5 = raised 4 7 (chained_laws (stage n).nodes.exprs (nodes_at n) s.Caret [] 8 exclusions refl (operands_at 4 7 (omega arith) r4 (lower 4)))
+      r5 = raised 4 7 (chained_laws (stage n).nodes.exprs (nodes_at n) s.Caret [] 8 exclusions refl (operands_at 4 7 (omega arith) r4 (lower 4 (omega arith))))
 
       pub settled5 : (next : ℕ) → Asked next → (x : Operand) → RowFits (suc n) 5 x → leaves next x ≡ true → Settled r5 x
       unfolding rows_over r5
-      settled5 next asked x fits left = raised_settled 4 7 (chained_laws (stage n).nodes.exprs (nodes_at n) s.Caret [] 8 exclusions refl (operands_at 4 7 (omega arith) r4 (lower 4))) x
-          (chained_settled (stage n).nodes.exprs (nodes_at n) s.Caret [] 8 exclusions refl (operands_at 4 7 (omega arith) r4 (lower 4)) next (asked_below next asked) (λ y. settled_low 4 next asked y) (λ y. settled4 next asked y) x (next_back 4 x fits) left)
+      settled5 next asked x fits left = raised_settled 4 7 (chained_laws (stage n).nodes.exprs (nodes_at n) s.Caret [] 8 exclusions refl (operands_at 4 7 (omega arith) r4 (lower 4 (omega arith)))) x
+          (chained_settled (stage n).nodes.exprs (nodes_at n) s.Caret [] 8 exclusions refl (operands_at 4 7 (omega arith) r4 (lower 4 (omega arith))) next (asked_below next asked) (λ y. settled_low 4 (omega arith) (omega arith) next asked y) (λ y. settled4 next asked y) x (next_back 4 x fits) left)
 
       pub r6 : RowLaws 6 6
       unfolding rows_over
-      r6 = raised 5 6 (chained_laws (stage n).nodes.exprs (nodes_at n) s.Bar [] 7 disjunctions refl (operands_at 5 6 (omega arith) r5 (lower 5)))
+      r6 = raised 5 6 (chained_laws (stage n).nodes.exprs (nodes_at n) s.Bar [] 7 disjunctions refl (operands_at 5 6 (omega arith) r5 (lower 5 (omega arith))))
 
       pub settled6 : (next : ℕ) → Asked next → (x : Operand) → RowFits (suc n) 6 x → leaves next x ≡ true → Settled r6 x
       unfolding rows_over r6
-      settled6 next asked x fits left = raised_settled 5 6 (chained_laws (stage n).nodes.exprs (nodes_at n) s.Bar [] 7 disjunctions refl (operands_at 5 6 (omega arith) r5 (lower 5))) x
-          (chained_settled (stage n).nodes.exprs (nodes_at n) s.Bar [] 7 disjunctions refl (operands_at 5 6 (omega arith) r5 (lower 5)) next (asked_below next asked) (λ y. settled_low 5 next asked y) (λ y. settled5 next asked y) x (next_back 5 x fits) left)
+      settled6 next asked x fits left = raised_settled 5 6 (chained_laws (stage n).nodes.exprs (nodes_at n) s.Bar [] 7 disjunctions refl (operands_at 5 6 (omega arith) r5 (lower 5 (omega arith)))) x
+          (chained_settled (stage n).nodes.exprs (nodes_at n) s.Bar [] 7 disjunctions refl (operands_at 5 6 (omega arith) r5 (lower 5 (omega arith))) next (asked_below next asked) (λ y. settled_low 5 (omega arith) (omega arith) next asked y) (λ y. settled5 next asked y) x (next_back 5 x fits) left)
 
       module _ (types : Laws class_of (stage n).nodes.exprs.type type_tokens nodes.type.Fits nodes.type.front type_first after_type false) where
         pub r7 : RowLaws 7 5
         unfolding rows_over
-        r7 = raised 6 5 (comparison_laws (stage n).nodes.exprs (nodes_at n) (operands_at 6 5 (omega arith) r6 (lower 6)) (λ y. settled6 5 (inr refl) y) types (bare_at n) (not_bare_at n 6) (λ opens x fits. rises_at 6 5 x fits opens (omega arith)))
+        r7 = raised 6 5 (comparison_laws (stage n).nodes.exprs (nodes_at n) (operands_at 6 5 (omega arith) r6 (lower 6 (omega arith))) (λ y. settled6 5 (inr refl) y) types (bare_at n) (not_bare_at n 6) (λ opens x fits. rises_at 6 5 x fits opens (omega arith)))
 
         pub r8 : PlainLaws 8 4
         unfolding rows_over
-        r8 = open_restated (single_laws (stage n).nodes.exprs (nodes_at n) s.EqualEqual (s.NotEqual ∷ []) 4 equalities (operands_at 7 4 (omega arith) r7 (lower 7))) (whole_forth 7) (whole_back 7) (whole_out 7) (whole_into 7)
+        r8 = open_restated (single_laws (stage n).nodes.exprs (nodes_at n) s.EqualEqual (s.NotEqual ∷ []) 4 equalities (operands_at 7 4 (omega arith) r7 (lower 7 (omega arith)))) (whole_forth 7) (whole_back 7) (whole_out 7) (whole_into 7)
 
         pub r9 : PlainLaws 9 3
         unfolding rows_over
-        r9 = open_restated (logical_laws (stage n).nodes.exprs (nodes_at n) s.AndAnd 3 both_hold refl (plain_operands 8 3 (omega arith) r8 (lower 8))) (plain_forth 8) (plain_back 8) (plain_out 8) (plain_into 8)
+        r9 = open_restated (logical_laws (stage n).nodes.exprs (nodes_at n) s.AndAnd 3 both_hold refl (plain_operands 8 3 (omega arith) r8 (lower 8 (omega arith)))) (plain_forth 8) (plain_back 8) (plain_out 8) (plain_into 8)
 
         pub r10 : PlainLaws 10 2
         unfolding rows_over
-        r10 = open_restated (logical_laws (stage n).nodes.exprs (nodes_at n) s.OrOr 2 one_holds refl (plain_operands 9 2 (omega arith) r9 (lower 9))) (plain_forth 9) (plain_back 9) (plain_out 9) (plain_into 9)
+        r10 = open_restated (logical_laws (stage n).nodes.exprs (nodes_at n) s.OrOr 2 one_holds refl (plain_operands 9 2 (omega arith) r9 (lower 9 (omega arith)))) (plain_forth 9) (plain_back 9) (plain_out 9) (plain_into 9)
 
         module _ (W : OpenLaws (stage n).nodes.exprs.without expr_tokens nodes.without.Fits nodes.without.front expr_first after_without half_without) where
           pub r11 : PlainLaws 11 question
           unfolding rows_over row_over
           r11 = open_restated (conditional_laws (suc n) W r10 (row_down n 10) (row_up n 10) (row_rise n 10) (λ x fits. rising_at (suc n) 10 x fits question opens_nothing (omega arith))) (plain_forth 10) (plain_back 10) (plain_out 10) (plain_into 10)
+
+          pub low_at : (i : ℕ) → i < 12 → LowAt i
+          unfolding rows_over
+          low_at zero lt = whole_row 0 r0
+          low_at (suc zero) lt = whole_row 1 r1
+          low_at (suc (suc zero)) lt = whole_row 2 r2
+          low_at (suc (suc (suc zero))) lt = whole_row 3 r3
+          low_at (suc (suc (suc (suc zero)))) lt = whole_row 4 r4
+          low_at (suc (suc (suc (suc (suc zero))))) lt = whole_row 5 r5
+          low_at (suc (suc (suc (suc (suc (suc zero)))))) lt = whole_row 6 r6
+          low_at (suc (suc (suc (suc (suc (suc (suc zero))))))) lt = whole_row 7 r7
+          low_at (suc (suc (suc (suc (suc (suc (suc (suc zero)))))))) lt = whole_plain 8 r8
+          low_at (suc (suc (suc (suc (suc (suc (suc (suc (suc zero))))))))) lt = whole_plain 9 r9
+          low_at (suc (suc (suc (suc (suc (suc (suc (suc (suc (suc zero)))))))))) lt = whole_plain 10 r10
+          low_at (suc (suc (suc (suc (suc (suc (suc (suc (suc (suc (suc zero))))))))))) lt = whole_plain 11 r11
+          low_at (suc (suc (suc (suc (suc (suc (suc (suc (suc (suc (suc (suc i)))))))))))) lt = absurd (omega (arith, lt))
+
+          pub low_settled : (i : ℕ) (lt : i < 12) → i < 6 → (next : ℕ) → Asked next → (x : Operand) → (row_of (suc n) i).Fits x → leaves next x ≡ true → Settled (low_at i lt) x
+          unfolding rows_over low_at
+          low_settled zero lt low next asked x fits left = whole_settled 0 r0 x fits (settled0 next asked x (inl fits) left)
+          low_settled (suc zero) lt low next asked x fits left = whole_settled 1 r1 x fits (settled1 next asked x (inl fits) left)
+          low_settled (suc (suc zero)) lt low next asked x fits left = whole_settled 2 r2 x fits (settled2 next asked x (inl fits) left)
+          low_settled (suc (suc (suc zero))) lt low next asked x fits left = whole_settled 3 r3 x fits (settled3 next asked x (inl fits) left)
+          low_settled (suc (suc (suc (suc zero)))) lt low next asked x fits left = whole_settled 4 r4 x fits (settled4 next asked x (inl fits) left)
+          low_settled (suc (suc (suc (suc (suc zero))))) lt low next asked x fits left = whole_settled 5 r5 x fits (settled5 next asked x (inl fits) left)
+          low_settled (suc (suc (suc (suc (suc (suc i)))))) lt low next asked x fits left = absurd (omega (arith, low))
 
           -- ---- a `>` behind what may be assigned to is given as a half with it at the last row, or stopped before
 
@@ -320,27 +377,27 @@ module _ (n : ℕ) where
             row_here (suc i) = plain_forth i x (inl (row_here i))
 
             abbrev shifted : OpenLaws (row_over (suc n) (stage n).nodes.exprs g.shifts (read 2) ((stage n).levels.row 2)) operand_tokens (EitherFit (RowFits (suc n) 2) (g.row_over g.shifts (nodes_at n) (under_at n 2)).Fits) (Either (row_front (suc n) 2) (g.row_over g.shifts (nodes_at n) (under_at n 2)).front) operand_first (after_operand 9) (half_operand 9)
-            shifted = shift_row_laws (stage n).nodes.exprs (nodes_at n) (operands_at 2 9 (omega arith) r2 (lower 2)) (λ y. settled2 9 (inl refl) y) (λ y. settled_low 2 9 (inl refl) y)
+            shifted = shift_row_laws (stage n).nodes.exprs (nodes_at n) (operands_at 2 9 (omega arith) r2 (lower 2 (omega arith))) (λ y. settled2 9 (inl refl) y) (λ y. settled_low 2 (omega arith) (omega arith) 9 (inl refl) y)
 
             kept3 : is_below operand_height (suc n) x ≡ true → (g : Place) → r3.Fits (x, Some g)
             unfolding r3 rows_over
             kept3 room g = restated_fits shifted (next_forth 2) (next_back 2) (next_out 2) (next_into 2) (x, Some g)
-                (shift_kept (stage n).nodes.exprs (nodes_at n) (operands_at 2 9 (omega arith) r2 (lower 2)) (λ y. settled2 9 (inl refl) y) (λ y. settled_low 2 9 (inl refl) y) x (inl (row_here 2)) (and_true (is_below operand_height (suc n) x) (leaves 9 x) room (target_leaves 9 x (inl refl) on)) g)
+                (shift_kept (stage n).nodes.exprs (nodes_at n) (operands_at 2 9 (omega arith) r2 (lower 2 (omega arith))) (λ y. settled2 9 (inl refl) y) (λ y. settled_low 2 (omega arith) (omega arith) 9 (inl refl) y) x (inl (row_here 2)) (and_true (is_below operand_height (suc n) x) (leaves 9 x) room (target_leaves 9 x (inl refl) on)) g)
 
             kept4 : is_below operand_height (suc n) x ≡ true → (g : Place) → r4.Fits (x, Some g)
             unfolding r4 rows_over
-            kept4 room g = restated_fits (chained_laws (stage n).nodes.exprs (nodes_at n) s.Ampersand [] 9 conjunctions refl (operands_at 3 8 (omega arith) r3 (lower 3))) (next_forth 3) (next_back 3) (next_out 3) (next_into 3) (x, Some g)
-                (chained_kept (stage n).nodes.exprs (nodes_at n) s.Ampersand [] 9 conjunctions refl (operands_at 3 8 (omega arith) r3 (lower 3)) x (kept3 room) g)
+            kept4 room g = restated_fits (chained_laws (stage n).nodes.exprs (nodes_at n) s.Ampersand [] 9 conjunctions refl (operands_at 3 8 (omega arith) r3 (lower 3 (omega arith)))) (next_forth 3) (next_back 3) (next_out 3) (next_into 3) (x, Some g)
+                (chained_kept (stage n).nodes.exprs (nodes_at n) s.Ampersand [] 9 conjunctions refl (operands_at 3 8 (omega arith) r3 (lower 3 (omega arith))) x (kept3 room) g)
 
             kept5 : is_below operand_height (suc n) x ≡ true → (g : Place) → r5.Fits (x, Some g)
             unfolding r5 rows_over
-            kept5 room g = restated_fits (chained_laws (stage n).nodes.exprs (nodes_at n) s.Caret [] 8 exclusions refl (operands_at 4 7 (omega arith) r4 (lower 4))) (next_forth 4) (next_back 4) (next_out 4) (next_into 4) (x, Some g)
-                (chained_kept (stage n).nodes.exprs (nodes_at n) s.Caret [] 8 exclusions refl (operands_at 4 7 (omega arith) r4 (lower 4)) x (kept4 room) g)
+            kept5 room g = restated_fits (chained_laws (stage n).nodes.exprs (nodes_at n) s.Caret [] 8 exclusions refl (operands_at 4 7 (omega arith) r4 (lower 4 (omega arith)))) (next_forth 4) (next_back 4) (next_out 4) (next_into 4) (x, Some g)
+                (chained_kept (stage n).nodes.exprs (nodes_at n) s.Caret [] 8 exclusions refl (operands_at 4 7 (omega arith) r4 (lower 4 (omega arith))) x (kept4 room) g)
 
             kept6 : is_below operand_height (suc n) x ≡ true → (g : Place) → r6.Fits (x, Some g)
             unfolding r6 rows_over
-            kept6 room g = restated_fits (chained_laws (stage n).nodes.exprs (nodes_at n) s.Bar [] 7 disjunctions refl (operands_at 5 6 (omega arith) r5 (lower 5))) (next_forth 5) (next_back 5) (next_out 5) (next_into 5) (x, Some g)
-                (chained_kept (stage n).nodes.exprs (nodes_at n) s.Bar [] 7 disjunctions refl (operands_at 5 6 (omega arith) r5 (lower 5)) x (kept5 room) g)
+            kept6 room g = restated_fits (chained_laws (stage n).nodes.exprs (nodes_at n) s.Bar [] 7 disjunctions refl (operands_at 5 6 (omega arith) r5 (lower 5 (omega arith)))) (next_forth 5) (next_back 5) (next_out 5) (next_into 5) (x, Some g)
+                (chained_kept (stage n).nodes.exprs (nodes_at n) s.Bar [] 7 disjunctions refl (operands_at 5 6 (omega arith) r5 (lower 5 (omega arith))) x (kept5 room) g)
 
             kept_or_full : (b : Bool) → is_below operand_height (suc n) x ≡ b → ((g : Place) → r6.Fits (x, Some g)) ⊎ (is_below operand_height (suc n) x ≡ false)
             kept_or_full true e = inl (kept6 e)
@@ -348,23 +405,23 @@ module _ (n : ℕ) where
 
             target7 : Settled r7 x
             unfolding r7 rows_over
-            target7 = raised_settled 6 5 (comparison_laws (stage n).nodes.exprs (nodes_at n) (operands_at 6 5 (omega arith) r6 (lower 6)) (λ y. settled6 5 (inr refl) y) types (bare_at n) (not_bare_at n 6) (λ opens y known. rises_at 6 5 y known opens (omega arith))) x
-                (comparison_kept (stage n).nodes.exprs (nodes_at n) (operands_at 6 5 (omega arith) r6 (lower 6)) (λ y. settled6 5 (inr refl) y) types (bare_at n) (not_bare_at n 6) (λ opens y known. rises_at 6 5 y known opens (omega arith)) x (settled6 9 (inl refl) x (inl (row_here 6)) (target_leaves 9 x (inl refl) on)) (kept_or_full (is_below operand_height (suc n) x) refl))
+            target7 = raised_settled 6 5 (comparison_laws (stage n).nodes.exprs (nodes_at n) (operands_at 6 5 (omega arith) r6 (lower 6 (omega arith))) (λ y. settled6 5 (inr refl) y) types (bare_at n) (not_bare_at n 6) (λ opens y known. rises_at 6 5 y known opens (omega arith))) x
+                (comparison_kept (stage n).nodes.exprs (nodes_at n) (operands_at 6 5 (omega arith) r6 (lower 6 (omega arith))) (λ y. settled6 5 (inr refl) y) types (bare_at n) (not_bare_at n 6) (λ opens y known. rises_at 6 5 y known opens (omega arith)) x (settled6 9 (inl refl) x (inl (row_here 6)) (target_leaves 9 x (inl refl) on)) (kept_or_full (is_below operand_height (suc n) x) refl))
 
             target8 : Settled r8 x
             unfolding r8 rows_over
-            target8 = restated_settled (single_laws (stage n).nodes.exprs (nodes_at n) s.EqualEqual (s.NotEqual ∷ []) 4 equalities (operands_at 7 4 (omega arith) r7 (lower 7))) (whole_forth 7) (whole_back 7) (whole_out 7) (whole_into 7) x
-                (single_kept (stage n).nodes.exprs (nodes_at n) s.EqualEqual (s.NotEqual ∷ []) 4 equalities (operands_at 7 4 (omega arith) r7 (lower 7)) x (inl (row_here 7)) (not_bare_at (suc n) 0 x fits) target7)
+            target8 = restated_settled (single_laws (stage n).nodes.exprs (nodes_at n) s.EqualEqual (s.NotEqual ∷ []) 4 equalities (operands_at 7 4 (omega arith) r7 (lower 7 (omega arith)))) (whole_forth 7) (whole_back 7) (whole_out 7) (whole_into 7) x
+                (single_kept (stage n).nodes.exprs (nodes_at n) s.EqualEqual (s.NotEqual ∷ []) 4 equalities (operands_at 7 4 (omega arith) r7 (lower 7 (omega arith))) x (inl (row_here 7)) (not_bare_at (suc n) 0 x fits) target7)
 
             target9 : Settled r9 x
             unfolding r9 rows_over
-            target9 = restated_settled (logical_laws (stage n).nodes.exprs (nodes_at n) s.AndAnd 3 both_hold refl (plain_operands 8 3 (omega arith) r8 (lower 8))) (plain_forth 8) (plain_back 8) (plain_out 8) (plain_into 8) x
-                (logical_kept (stage n).nodes.exprs (nodes_at n) s.AndAnd 3 both_hold refl (plain_operands 8 3 (omega arith) r8 (lower 8)) x (row_here 8) target8)
+            target9 = restated_settled (logical_laws (stage n).nodes.exprs (nodes_at n) s.AndAnd 3 both_hold refl (plain_operands 8 3 (omega arith) r8 (lower 8 (omega arith)))) (plain_forth 8) (plain_back 8) (plain_out 8) (plain_into 8) x
+                (logical_kept (stage n).nodes.exprs (nodes_at n) s.AndAnd 3 both_hold refl (plain_operands 8 3 (omega arith) r8 (lower 8 (omega arith))) x (row_here 8) target8)
 
             target10 : Settled r10 x
             unfolding r10 rows_over
-            target10 = restated_settled (logical_laws (stage n).nodes.exprs (nodes_at n) s.OrOr 2 one_holds refl (plain_operands 9 2 (omega arith) r9 (lower 9))) (plain_forth 9) (plain_back 9) (plain_out 9) (plain_into 9) x
-                (logical_kept (stage n).nodes.exprs (nodes_at n) s.OrOr 2 one_holds refl (plain_operands 9 2 (omega arith) r9 (lower 9)) x (row_here 9) target9)
+            target10 = restated_settled (logical_laws (stage n).nodes.exprs (nodes_at n) s.OrOr 2 one_holds refl (plain_operands 9 2 (omega arith) r9 (lower 9 (omega arith)))) (plain_forth 9) (plain_back 9) (plain_out 9) (plain_into 9) x
+                (logical_kept (stage n).nodes.exprs (nodes_at n) s.OrOr 2 one_holds refl (plain_operands 9 2 (omega arith) r9 (lower 9 (omega arith))) x (row_here 9) target9)
 
             pub target11 : Settled r11 x
             unfolding r11 rows_over row_over
