@@ -10,7 +10,7 @@ use Rattle.dart_tree.specs.LeafTokens.{sign_at}
 use Rattle.dart_tree.specs.Tree as t
 use Rattle.dart_tree.specs.Tree.{Operand, Selectors, Value, Cascades}
 use Rattle.dart_tree.specs.Tokens.{operand_tokens, cascades_tokens, selectors_tokens, value_tokens}
-use Rattle.grammar_laws.specs.Codes.{Apart, Within, given, is_empty, after_list, after_followed}
+use Rattle.grammar_laws.specs.Codes.{has, Apart, Within, given, is_empty, after_list, after_followed}
 use Rattle.grammar_laws.specs.Readers.{always, some}
 use Rattle.grammar_laws.specs.Halves.{no_half}
 use Rattle.grammar_laws.specs.Fronts.{Front, Empty, Joint, Several, Either, EitherFit, BothFit, GoesOn, FollowedFit, SomeFit, EachFit, Made, both_spelling, joined_spelling, option_spelling}
@@ -23,18 +23,20 @@ use Rattle.dart_syntax.specs.Edges.{dots, question, opens_nothing, operand_takes
 use Rattle.dart_syntax.specs.Edges as edge
 use Rattle.dart_syntax.specs.Agreement.{section_tokens}
 use Rattle.dart_syntax.specs.Expressions as g
-use Rattle.token_codes.specs.Codes.{class_of, these}
+use Rattle.token_codes.specs.Codes.{class_of, sign_code, these}
 use Rattle.syntax_readers.specs.Combinators.{Open, with_half}
 use Rattle.syntax_readers.specs.Primaries.{ExprReaders, operand_first}
 use Rattle.syntax_readers.specs.Expressions.{Cascade, to_cascades, cascades, with_cascades, cascaded_over}
 use Rattle.syntax_readers.specs.Levels.{LevelReaders}
 use Rattle.laws_expr.specs.Nexts.{Taking, nexts, taken, operand_alone, cascades_alone, after_operand, after_cascade, after_cascaded}
 use Rattle.laws_expr.proofs.Behind.{cascades_alone_within}
-use Rattle.laws_expr.proofs.Open.{OpenLaws, open_spelling, half_tokens, after_open, bare, tree, no_some, tree_fits}
+use Rattle.laws_expr.proofs.Open.{OpenLaws, Settled, open_spelling, half_tokens, after_open, bare, tree, no_some, tree_fits}
 use Rattle.laws_expr.proofs.Edges.{apart_but, within_at, taken_moves, cascades_moves}
 use Rattle.laws_expr.proofs.Chain.{half_of, half_moves, half_operand, looser, looser_half, left_apart}
 use Rattle.laws_expr.proofs.Cascades.{half_cascade}
-use Rattle.laws_expr.proofs.Sets.{not_false}
+use Rattle.laws_expr.proofs.Refined.{reads_half, sharp, sharp_within, sharp_stops, refined_laws}
+use Rattle.laws_expr.proofs.Refusing.{last_cascade}
+use Rattle.laws_expr.proofs.Sets.{given_misses, not_either, not_false}
 
 -- what goes on behind cascades in the place of an expression
 abbrev pub after_cascades : Cascades → List ℕ
@@ -80,6 +82,15 @@ drop (x ∷ more) = x.0 ∷ drop more
 abbrev pub keep : List (Place × (Selectors × Value)) → List (Open Cascade)
 keep [] = []
 keep (x ∷ more) = (x, None) ∷ keep more
+
+-- with this half behind the last
+abbrev pub keep_half : Option Place → List (Place × (Selectors × Value)) → List (Open Cascade)
+keep_half h [] = []
+keep_half h (x ∷ more) = (x, if is_empty more then h else None) ∷ keep_half h more
+
+pub cascades_half : (h : Option Place) (x : Place × (Selectors × Value)) (more : List (Place × (Selectors × Value))) → to_cascades (keep_half h (x ∷ more)) ≡ (g.to_cascades (x ∷ more), h)
+cascades_half h x [] = refl
+cascades_half h x (y ∷ more) = ap (λ (z : Open Cascades). (t.cascade x.0 x.1.0 x.1.1 z.0, z.1)) (cascades_half h y more)
 
 pub cascades_drop : (all : List (Open Cascade)) → g.to_cascades (drop all) ≡ (to_cascades all).0
 cascades_drop [] = refl
@@ -180,6 +191,28 @@ module _ (inner : ExprReaders) {C : Place × (Selectors × Value) → Type 0} {c
   pub go_keep : (all : List (Place × (Selectors × Value))) → AllByRecursion (GoesOn C leaves_cascade) all → AllByRecursion (GoesOn L.Fits may_follow) (keep all) × (flat_map section_tokens all ≡ flat_map item_spell (keep all))
   go_keep [] go = (tt, refl)
   go_keep (x ∷ more) go = let k = go_keep more go.1 in (((L.none_in x go.0.0, go.0.1), k.0), ap (λ (m : List Token). section_tokens x ++ m) k.1 ∙ ap (λ (m : List Token). m ++ flat_map item_spell (keep more)) (sym (append-nil (section_tokens x))))
+
+  -- ---- a `>` behind cascades, as behind the last
+
+  pub each_half : (h : Option Place) (x : Place × (Selectors × Value)) (more : List (Place × (Selectors × Value))) → EachFit C leaves_cascade (x ∷ more) → L.Fits (last_cascade x more, h) → EachFit L.Fits may_follow (keep_half h (x ∷ more))
+  each_half h x [] fits last = (last, or_right (may_follow (x, h)) true refl, tt)
+  each_half h x (y ∷ more) fits last = (L.none_in x fits.0, fits.1, each_half h y more fits.2 last)
+
+  module _ (asks : Place × (Selectors × Value) → Bool) (settled : (x : Place × (Selectors × Value)) → C x → asks x ≡ true → Settled L x) where
+    abbrev pub sharp_next : Open Cascade → List ℕ
+    sharp_next = after_open (sharp L asks settled) half_cascade
+
+    sharp_item : (x : Open Cascade) → L.Fits x → may_follow x ≡ true → Apart (sharp_next x) (these s.DotDot)
+    sharp_item (x, None) fits on = apart_smaller (sharp_within L asks settled x) (no_dots x on)
+    sharp_item (x, Some g) fits on = absurd cc
+
+    pub sharp_cascades : Laws class_of (cascades inner) (flat_map item_spell) (SomeFit L.Fits may_follow) (Several item_spell L.Fits may_follow cfront) (these s.DotDot) (after_list (these s.DotDot) may_follow sharp_next) false
+    unfolding cascades
+    sharp_cascades = some_laws (refined_laws L asks settled) may_follow sharp_item
+
+    pub last_stops : (x : Place × (Selectors × Value)) (more : List (Place × (Selectors × Value))) → asks (last_cascade x more) ≡ true → reads_half L (last_cascade x more) ≡ false → has (after_list (these s.DotDot) may_follow sharp_next (keep_half None (x ∷ more))) (sign_code s.Greater) ≡ false
+    last_stops x [] on none = not_either (sharp L asks settled x) (given (may_follow (x, None)) (these s.DotDot)) (sign_code s.Greater) (sharp_stops L asks settled x on none) (given_misses (may_follow (x, None)) (these s.DotDot) (sign_code s.Greater) refl)
+    last_stops x (y ∷ more) on none = last_stops y more on none
 
   -- ---- a conditional expression with cascades, as an initialiser has it
 

@@ -5,13 +5,13 @@ use Rattle.dart_base.specs.declared.place.Place.{Place}
 use Rattle.dart_token.specs.declared.token.Token.{Token}
 use Rattle.dart_token.specs.declared.sign.Sign.TheVariants as s
 use Rattle.dart_tree.specs.declared.operator.Operator.{Operator}
-use Rattle.dart_tree.specs.LeafTokens.{operator_tokens}
+use Rattle.dart_tree.specs.LeafTokens.{sign_at, operator_tokens}
 use Rattle.dart_tree.specs.Types.{TypeNode}
 use Rattle.dart_tree.specs.Tree as t
 use Rattle.dart_tree.specs.Tree.{Expr, Selectors, Value}
 use Rattle.dart_tree.specs.Tokens.{expr_tokens, value_tokens, selectors_tokens}
-use Rattle.grammar_laws.specs.Codes.{Apart, Within, given, after_followed_by}
-use Rattle.grammar_laws.specs.Readers.{Outcome, Reader, and_then, always, never, continued_by}
+use Rattle.grammar_laws.specs.Codes.{has, Apart, Within, given, after_followed_by}
+use Rattle.grammar_laws.specs.Readers.{Outcome, Reader, and_then, both, always, never, continued_by}
 use Rattle.grammar_laws.specs.Laws.{Laws}
 use Rattle.grammar_laws.specs.Fronts.{Front, Joint, BothFit, Made, both_spelling, option_spelling}
 use Rattle.grammar_laws.proofs.Codes.{apart, apart_none, apart_smaller, inside, or_right, within_none, within_then, within_union, within_given, within_left, within_right}
@@ -39,6 +39,7 @@ use Rattle.laws_expr.proofs.Chain.{half_of, half_moves}
 use Rattle.laws_expr.proofs.Once.{half_without}
 use Rattle.laws_expr.proofs.Selectors.{section_laws}
 use Rattle.laws_expr.proofs.Halved.{halved_laws}
+use Rattle.laws_expr.proofs.Refined.{reads_half, half_read, sharp, sharp_stops, refined_open}
 use Rattle.laws_expr.proofs.Assigning.{parts, same_parts, parts_spell, PartsFit, Said, parts_laws}
 use Rattle.laws_expr.proofs.Divided.{AssignFits, second_tokens, one_of_said, assign_out}
 
@@ -228,3 +229,42 @@ module _ {inner : ExprReaders} {nodes : g.ExprNodes} (N : ClosedRead inner nodes
     some_out = some_out;
     laws = reread (refront (made_laws (both_laws (sign_reads s.DotDot) part_laws (λ place fits. apart_none _)) make (open_spelling section_tokens) (after_open after_cascade half_cascade) made_said made_on) out into) (λ ts. same_cascade (sign s.DotDot ts));
   }
+
+  -- ---- a `>` behind a part is given as a half, or stopped before, as behind what is assigned in it
+
+  omitted_stops : (dots : Place) (x : Selectors) (b : Bool) → selectors_assign x ≡ b → Section x → Settled cascade_laws (dots, (x, t.omitted))
+  unfolding cascade_laws cascades_take cascades_alone
+  omitted_stops dots x true on fits = inl (λ g. ((dots, ((x, Some g), None)), (tt, (halves x g fits on, refl)), refl))
+  omitted_stops dots x false off fits = stops_before cascade_laws (dots, (x, t.omitted)) (tt, inl (fits, refl)) (ap (λ (b : Bool). has (taken (λ next opens. cascades_take next opens question (one_cascade (dots, (x, t.omitted)))) ++ given b assigned_codes) (sign_code s.Greater)) off)
+
+  module _ (asks : Expr → Bool) (settled : (e : Expr) → nodes.without.Fits e → asks e ≡ true → Settled W e) where
+    abbrev SharpAfter : Place × (Open Selectors × Option Assigned) → List ℕ
+    SharpAfter p = after_followed_by (after_open after_half no_codes) (λ (x : Open Selectors). selectors_assign x.0) (λ (x : Open Selectors). assign_codes x.1) (λ x y. after_open (sharp W asks settled) half_without y.1) p.1
+
+    sharp_part : Laws class_of (both (sign s.DotDot) reader) (both_spelling (sign_tokens s.DotDot) spelled) (BothFit Anything Part) (dotted said_front) (these s.DotDot) SharpAfter false
+    sharp_part = both_laws (sign_reads s.DotDot) (parts_laws selectors_assign section_half (refined_open W asks settled) no_assign (λ x fits on. apart_none (these s.GreaterEqual)) halves) (λ place fits. apart_none _)
+
+    value_part : (x : Selectors) (operator : Operator) (e : Expr) (k : Option Place) → Section x → selectors_assign x ≡ true → g.assigning.Fits operator → W.Fits (e, k) → (h : Option Place) × Part ((x, h), Some (operator, (e, k)))
+    value_part x operator e k fits on (inl known) value = (None, (section_half.none_in x fits, (on, (known, value))))
+    value_part x operator e k fits on (inr ((first, second), there, made)) value = (Some first, (halves x first fits on, (on, ((second, tt, made), value))))
+
+    value_stays : (dots : Place) (x : Selectors) (h : Option Place) (operator : Operator) (e : Expr) → Part ((x, h), Some (operator, (e, None))) → asks e ≡ true → reads_half W e ≡ false → (place : Place) (ts : List Token) →
+        cascade_over inner (open_spelling section_tokens ((dots, (x, t.given (Some operator) e)), None) ++ sign_at place s.Greater ∷ ts) ≡ Ok (((dots, (x, t.given (Some operator) e)), None), sign_at place s.Greater ∷ ts)
+    unfolding cascade_over class_of
+    value_stays dots x h operator e known asked none place ts =
+        let p : Place × (Open Selectors × Option Assigned) = (dots, ((x, h), Some (operator, (e, None)))) in
+        let rest : List Token = sign_at place s.Greater ∷ ts in
+        ap (λ (m : List Token). cascade_over inner (m ++ rest)) (made_said (dots, ((x, h), Some (operator, (e, None)))) (tt, known))
+        ∙ same_cascade (sign s.DotDot (both_spelling (sign_tokens s.DotDot) spelled p ++ rest))
+        ∙ ap (λ (r : Outcome Token (Place × (Open Selectors × Option Assigned))). and_then r (λ y z. Ok (make y, z))) (sharp_part.complete p rest (tt, known) (sharp_stops W asks settled e asked none))
+
+    value_settled : (dots : Place) (x : Selectors) (operator : Operator) (e : Expr) → Section x → selectors_assign x ≡ true → g.assigning.Fits operator → nodes.without.Fits e → asks e ≡ true → Settled cascade_laws (dots, (x, t.given (Some operator) e))
+    unfolding cascade_laws
+    value_settled dots x operator e fits on known value asked = by_half (reads_half W e) refl where
+      by_half : (b : Bool) → reads_half W e ≡ b → Settled cascade_laws (dots, (x, t.given (Some operator) e))
+      by_half true is = inl (λ g. let p = value_part x operator e (Some g) fits on known (half_read W e (settled e value asked) is g) in ((dots, ((x, p.0), Some (operator, (e, Some g)))), (tt, p.1), refl))
+      by_half false is = inr (λ g ts. let p = value_part x operator e None fits on known (W.none_in e value) in value_stays dots x p.0 operator e p.1 asked is g ts)
+
+    pub cascade_settled : (dots : Place) (x : Selectors) (v : Value) → Of (dots, (x, v)) → ((operator : Operator) (e : Expr) → v ≡ t.given (Some operator) e → asks e ≡ true) → Settled cascade_laws (dots, (x, v))
+    cascade_settled dots x v (at, inl (fits, is)) asked = subst (λ (y : Value). Settled cascade_laws (dots, (x, y))) (sym is) (omitted_stops dots x (selectors_assign x) refl fits)
+    cascade_settled dots x v (at, inr ((fits, on), ((operator, e), (known, value), is))) asked = subst (λ (y : Value). Settled cascade_laws (dots, (x, y))) is (value_settled dots x operator e fits on known value (asked operator e (sym is)))

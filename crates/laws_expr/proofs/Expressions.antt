@@ -5,16 +5,17 @@ use Rattle.dart_base.specs.declared.place.Place.{Place}
 use Rattle.dart_token.specs.declared.token.Token.{Token}
 use Rattle.dart_token.specs.declared.sign.Sign.TheVariants as s
 use Rattle.dart_tree.specs.declared.operator.Operator.{Operator}
-use Rattle.dart_tree.specs.LeafTokens.{operator_tokens}
+use Rattle.dart_tree.specs.LeafTokens.{sign_at, operator_tokens}
 use Rattle.dart_tree.specs.Tree as t
 use Rattle.dart_tree.specs.Tree.{Expr, Operand, Selectors, Value, Cascades}
 use Rattle.dart_tree.specs.Tokens.{expr_tokens, operand_tokens, cascades_tokens}
-use Rattle.grammar_laws.specs.Codes.{Apart, Within, given, is_empty, after_list, after_followed_by}
+use Rattle.grammar_laws.specs.Codes.{has, Apart, Within, given, is_empty, after_list, after_followed_by}
 use Rattle.grammar_laws.specs.Readers.{Outcome, Reader, and_then, always, never, nothing, mapped, when, starts, continued_by}
 use Rattle.grammar_laws.specs.Halves.{no_half}
-use Rattle.grammar_laws.specs.Fronts.{Front, Empty, Joint, JointBy, Several, Either, EitherFit, BothFit, GoesOn, ContinuedFitBy, SomeFit, Made, both_spelling, joined_spelling, option_spelling}
+use Rattle.grammar_laws.specs.Fronts.{Front, Empty, Joint, JointBy, Several, Either, EitherFit, BothFit, GoesOn, ContinuedFitBy, SomeFit, EachFit, Made, both_spelling, joined_spelling, option_spelling}
 use Rattle.grammar_laws.specs.Laws.{Laws}
 use Rattle.grammar_laws.proofs.Codes.{apart, apart_none, apart_union, has_cases, has_left, has_right, has_given, given_has, within_none, within_then, within_union, within_given, within_self, within_left, within_right}
+use Rattle.grammar_laws.proofs.Cuts.{gave}
 use Rattle.grammar_laws.proofs.Joints.{begins}
 use Rattle.grammar_laws.proofs.Restated.{made_laws, reread, refit, refront}
 use Rattle.grammar_laws.proofs.Combined.{both_laws}
@@ -25,26 +26,28 @@ use Rattle.dart_syntax.specs.Agreement.{section_tokens}
 use Rattle.dart_syntax.specs.Edges.{dots, question, opens_nothing, expr_takes, operand_takes, leaves, leaves_cascade}
 use Rattle.dart_syntax.specs.Expressions as g
 use Rattle.dart_syntax.specs.Expressions.{assignment_signs, rows}
-use Rattle.token_codes.specs.Codes.{class_of, these, sign_codes}
+use Rattle.token_codes.specs.Codes.{class_of, sign_code, these, sign_codes}
 use Rattle.syntax_readers.specs.Combinators.{Open, with_half, halved}
 use Rattle.syntax_readers.specs.Primaries.{ExprReaders, operand_first, expr_first}
 use Rattle.syntax_readers.specs.Levels.{LevelReaders, assigns}
 use Rattle.syntax_readers.specs.Expressions.{Assigned, Cascade, Behind, assigned, cascaded, an_expr, to_cascades, cascade_codes, assign_codes, assignment, assigned_or_cascaded, opened, expr_over}
 use Rattle.laws_expr.specs.Nexts.{Taking, nexts, taken, expr_alone, after_expr, after_without, after_operand, after_cascade}
 use Rattle.laws_expr.proofs.Begun.{front_starts, none_or}
-use Rattle.laws_expr.proofs.Open.{OpenLaws, Settled, open_spelling, half_tokens, after_open, bare, tree, no_some, open_by_first_laws, open_wider, tree_fits}
+use Rattle.laws_expr.proofs.Open.{OpenLaws, Settled, open_spelling, half_tokens, after_open, bare, tree, no_some, open_by_first_laws, first_settled, second_settled, open_wider, wider_settled, tree_fits}
 use Rattle.laws_expr.proofs.Edges.{within_at, taken_moves, expr_moves}
 use Rattle.laws_expr.proofs.Chain.{half_operand, half_moves, left_apart}
 use Rattle.laws_expr.proofs.Once.{half_without}
 use Rattle.laws_expr.proofs.Functions.{half_expr}
-use Rattle.laws_expr.proofs.Halved.{halved_laws}
+use Rattle.laws_expr.proofs.Halved.{halved_laws, halved_settled}
 use Rattle.laws_expr.proofs.Assigning as asg
 use Rattle.laws_expr.proofs.Cascades.{half_cascade}
 use Rattle.laws_expr.proofs.Cascaded as c
 use Rattle.laws_expr.proofs.Cascaded.{after_cascades, half_cascades, cascades_laws}
-use Rattle.laws_expr.proofs.Throwing.{target_assign, target_equal, plain_on, half_plain_on, Throwing, throwing_front, throw_laws}
+use Rattle.laws_expr.proofs.Throwing.{target_assign, target_equal, plain_on, half_plain_on, Throwing, throwing_front, throw_laws, throw_settled, plain_list}
 use Rattle.laws_expr.proofs.Guarded.{guarded, GuardedFit, guarded_front, guarded_laws}
-use Rattle.laws_expr.proofs.Sets.{swap, apart_when}
+use Rattle.laws_expr.proofs.Refined.{reads_half, half_read, sharp, sharp_stops, refined_laws}
+use Rattle.laws_expr.proofs.Refusing.{last_cascade}
+use Rattle.laws_expr.proofs.Sets.{swap, given_misses, not_either, apart_when}
 use Rattle.laws_expr.proofs.Divided.{AssignFits, second_tokens, one_of_said, assign_operator_laws, assign_front, assign_out}
 
 -- ---- what goes on
@@ -365,3 +368,103 @@ module _ (inner : ExprReaders) {E : Expr → Type 0} {efront : Front Token} (X :
     pub expr_laws : OpenLaws (expr_over inner levels) expr_tokens (EitherFit (Throwing inner X) Of) (Either (throwing_front inner X) of_front) expr_first after_expr half_expr
     unfolding expr_over opened
     expr_laws = open_by_first_laws (open_wider (throw_laws inner X) (λ x fits. without_on x) (λ x fits. without_on_half x)) behind_read (apart refl)
+
+    -- ---- a `>` behind them is given as a half, or stopped before, as behind the last part
+
+    pub thrown_settled : (word : Place) (e : Expr) → E e → Settled X e → Settled expr_laws (t.throw word e)
+    unfolding expr_laws expr_over opened
+    thrown_settled word e fits settled = first_settled (open_wider (throw_laws inner X) (λ x fits. without_on x) (λ x fits. without_on_half x)) behind_read (apart refl) (t.throw word e) ((word, e), (tt, fits), refl)
+        (wider_settled (throw_laws inner X) (λ x fits. without_on x) (λ x fits. without_on_half x) (t.throw word e) (throw_settled inner X word e fits settled))
+
+    abbrev whole : Reader Token (Open Expr)
+    whole = mapped an_expr (continued_by class_of never always codes (halved assigns (levels.row (length rows))) (λ x. assigned_or_cascaded x.1 inner))
+
+    no_greater : (x : Operand) → has (codes (x, None)) (sign_code s.Greater) ≡ false
+    no_greater x = not_either (given (assigns x) (assign_codes None)) (cascade_codes (x, None)) (sign_code s.Greater) (given_misses (assigns x) (assign_codes None) (sign_code s.Greater) refl) (given_misses (leaves dots x) (these s.DotDot) (sign_code s.Greater) refl)
+
+    alone_settled : (x : Operand) → R x → (assigns x ≡ false → Settled Row x) → Settled behind_read (t.plain x t.no_cascades)
+    unfolding behind_read class_of
+    alone_settled x fits settled = elim (halved_settled Row assigns decide x fits settled) as (λ _. Settled behind_read (t.plain x t.no_cascades)) [
+      | inl known ↦ inl (λ g. (((x, Some g), None), (known g, refl), refl))
+      | inr stays ↦ inr (λ g ts. ap whole (plain_list x (sign_at g s.Greater ∷ ts)) ∙ ap (given_by (λ y. assigned_or_cascaded y.1 inner)) (stays g ts)
+          ∙ ap (λ (c : Bool). asked c (assigned_or_cascaded None inner) (x, None) (sign_at g s.Greater ∷ ts)) (no_greater x))
+    ]
+
+    pub plain_settled : (x : Operand) → R x → (assigns x ≡ false → Settled Row x) → Settled expr_laws (t.plain x t.no_cascades)
+    unfolding expr_laws expr_over opened
+    plain_settled x fits settled = second_settled (open_wider (throw_laws inner X) (λ y fits. without_on y) (λ y fits. without_on_half y)) behind_read (apart refl) (t.plain x t.no_cascades) (inr ((x, []), inl (fits, refl), refl)) (alone_settled x fits settled)
+
+    module _ (asks : Expr → Bool) (settled : (e : Expr) → E e → asks e ≡ true → Settled X e)
+        (asks_cascade : Place × (Selectors × Value) → Bool) (settled_cascade : (y : Place × (Selectors × Value)) → C y → asks_cascade y ≡ true → Settled L y) where
+      sharp_assignment : (h : Option Place) → Laws class_of (assignment h inner.expr) (both_spelling second_tokens (open_spelling expr_tokens)) (BothFit (AssignFits h) X.Fits) (assigned_front h) (assign_codes h) (λ y. after_open (sharp X asks settled) half_expr y.1) false
+      unfolding assignment
+      sharp_assignment h = both_laws (assign_operator_laws h) (refined_laws X asks settled) (λ y fits. apart_none expr_first)
+
+      abbrev sharp_after : Behind → List ℕ
+      sharp_after (assigned x) = after_open (sharp X asks settled) half_expr x.1
+      sharp_after (cascaded all) = after_list (these s.DotDot) c.may_follow (c.sharp_next inner L asks_cascade settled_cascade) all
+
+      sharp_behind : (h : Option Place) → Laws class_of (assigned_or_cascaded h inner) spelled (BehindFits h) (Either cascades_front (assigned_front h)) (these s.DotDot ++ assign_codes h) sharp_after false
+      unfolding assigned_or_cascaded
+      sharp_behind h = refit_by (by_first_laws
+          (made_laws (c.sharp_cascades inner L asks_cascade settled_cascade) cascaded spelled sharp_after (λ all fits. refl) (λ all fits. within_self _))
+          (made_laws (sharp_assignment h) assigned spelled sharp_after (λ x fits. refl) (λ x fits. within_self _)) (apart_assign h)) where
+            refit_by : Laws class_of (assigned_or_cascaded h inner) spelled (Kinds h) (Either cascades_front (assigned_front h)) (these s.DotDot ++ assign_codes h) sharp_after false → Laws class_of (assigned_or_cascaded h inner) spelled (BehindFits h) (Either cascades_front (assigned_front h)) (these s.DotDot ++ assign_codes h) sharp_after false
+            refit_by P = refit P (kinds_out h) (kinds_in h)
+
+      sharp_parts : Laws class_of parts_reader (joined_spelling (open_spelling operand_tokens) spelled) PartsFit PartsFront operand_first (after_followed_by after_half always codes (λ x b. sharp_after b)) false
+      sharp_parts = continued_by_laws row_half.laws (λ x fits. guarded_laws (sharp_behind x.1) (codes x)) never always (λ x e. absurd cc) codes_apart
+
+      stays_read : (x : Operand) (h : Option Place) (b : Behind) (z : Expr) → PartsFit ((x, h), Some b) → an_expr ((x, h), Some b) ≡ (z, None) → has (sharp_after b) (sign_code s.Greater) ≡ false → (place : Place) (ts : List Token) →
+          whole (open_spelling expr_tokens (z, None) ++ sign_at place s.Greater ∷ ts) ≡ Ok ((z, None), sign_at place s.Greater ∷ ts)
+      unfolding class_of
+      stays_read x h b z known made stop place ts =
+          let rest : List Token = sign_at place s.Greater ∷ ts in
+          let list : List Token = joined_spelling (open_spelling operand_tokens) spelled ((x, h), Some b) ++ rest in
+          ap (λ (m : List Token). whole (m ++ rest)) (ap (open_spelling expr_tokens) (sym made) ∙ parts_said ((x, h), Some b) known)
+          ∙ same_by (halved assigns (levels.row (length rows)) list)
+          ∙ ap (λ (r : Outcome Token (Open Operand × Option Behind)). and_then r (λ v u. Ok (an_expr v, u))) (sharp_parts.complete ((x, h), Some b) rest known stop)
+          ∙ ap (λ (v : Open Expr). gave v rest) made
+
+      assigning_part : (x : Operand) (op : Operator) (e : Expr) (k : Option Place) → T x → g.assigning.Fits op → X.Fits (e, k) → (h : Option Place) × PartsFit ((x, h), Some (assigned (op, (e, k))))
+      assigning_part x op e k target (inl known) value =
+          let w = of_target x target in
+          (None, (row_half.none_in x w.0, (refl, ((known, value), assign_go x None (spelled (assigned (op, (e, k)))) w.1 (assign_begin None (op, (e, k)) (known, value))))))
+      assigning_part x op e k target (inr ((first, second), there, made)) value =
+          let w = of_target x target in
+          (Some first, (halves x first w.0 w.1, (refl, (((second, tt, made), value), assign_go x (Some first) (spelled (assigned (op, (e, k)))) w.1 (assign_begin (Some first) (op, (e, k)) ((second, tt, made), value))))))
+
+      assigned_settled : (x : Operand) (op : Operator) (e : Expr) → T x → g.assigning.Fits op → E e → asks e ≡ true → Settled behind_read (t.assign x op e)
+      unfolding behind_read
+      assigned_settled x op e target known value sought = by_half (reads_half X e) refl where
+        by_half : (b : Bool) → reads_half X e ≡ b → Settled behind_read (t.assign x op e)
+        by_half true is = inl (λ g. let p = assigning_part x op e (Some g) target known (half_read X e (settled e value sought) is g) in (((x, p.0), Some (assigned (op, (e, Some g)))), p.1, refl))
+        by_half false is = inr (λ g ts. let p = assigning_part x op e None target known (X.none_in e value) in stays_read x p.0 (assigned (op, (e, None))) (t.assign x op e) p.1 refl (sharp_stops X asks settled e sought is) g ts)
+
+      pub value_settled : (x : Operand) (op : Operator) (e : Expr) → T x → g.assigning.Fits op → E e → asks e ≡ true → Settled expr_laws (t.assign x op e)
+      unfolding expr_laws expr_over opened
+      value_settled x op e target known value sought = second_settled (open_wider (throw_laws inner X) (λ y fits. without_on y) (λ y fits. without_on_half y)) behind_read (apart refl) (t.assign x op e) (inl ((x, (op, e)), (target, (known, value)), refl)) (assigned_settled x op e target known value sought)
+
+      several_part : (x : Operand) (y : Place × (Selectors × Value)) (more : List (Place × (Selectors × Value))) (k : Option Place) → R x → leaves dots x ≡ true → EachFit C leaves_cascade (y ∷ more) → L.Fits (last_cascade y more, k) → PartsFit ((x, None), Some (cascaded (c.keep_half k (y ∷ more))))
+      several_part x y more k fits on each last =
+          let known : SomeFit L.Fits c.may_follow (c.keep_half k (y ∷ more)) = (refl, c.each_half inner L k y more each last) in
+          (row_half.none_in x fits, (refl, (known, dots_go x (flat_map c.item_spell (c.keep_half k (y ∷ more))) on (dots_begin (c.keep_half k (y ∷ more)) known))))
+
+      last_fits : (y : Place × (Selectors × Value)) (more : List (Place × (Selectors × Value))) → EachFit C leaves_cascade (y ∷ more) → C (last_cascade y more)
+      last_fits y [] each = each.0
+      last_fits y (z ∷ more) each = last_fits z more each.2
+
+      several_made : (x : Operand) (y : Place × (Selectors × Value)) (more : List (Place × (Selectors × Value))) (k : Option Place) → an_expr ((x, None), Some (cascaded (c.keep_half k (y ∷ more)))) ≡ (t.plain x (g.to_cascades (y ∷ more)), k)
+      several_made x y more k = ap (with_half (t.plain x)) (c.cascades_half k y more)
+
+      cascades_known : (x : Operand) (y : Place × (Selectors × Value)) (more : List (Place × (Selectors × Value))) → R x → leaves dots x ≡ true → EachFit C leaves_cascade (y ∷ more) → asks_cascade (last_cascade y more) ≡ true → Settled behind_read (t.plain x (g.to_cascades (y ∷ more)))
+      unfolding behind_read
+      cascades_known x y more fits on each sought = by_half (reads_half L (last_cascade y more)) refl where
+        by_half : (b : Bool) → reads_half L (last_cascade y more) ≡ b → Settled behind_read (t.plain x (g.to_cascades (y ∷ more)))
+        by_half true is = inl (λ place. (((x, None), Some (cascaded (c.keep_half (Some place) (y ∷ more)))), several_part x y more (Some place) fits on each (half_read L (last_cascade y more) (settled_cascade (last_cascade y more) (last_fits y more each) sought) is place), several_made x y more (Some place)))
+        by_half false is = inr (λ place ts. stays_read x None (cascaded (c.keep_half None (y ∷ more))) (t.plain x (g.to_cascades (y ∷ more))) (several_part x y more None fits on each (L.none_in (last_cascade y more) (last_fits y more each))) (several_made x y more None)
+            (c.last_stops inner L asks_cascade settled_cascade y more sought is) place ts)
+
+      pub cascades_settled : (x : Operand) (y : Place × (Selectors × Value)) (more : List (Place × (Selectors × Value))) → R x → leaves dots x ≡ true → EachFit C leaves_cascade (y ∷ more) → asks_cascade (last_cascade y more) ≡ true → Settled expr_laws (t.plain x (g.to_cascades (y ∷ more)))
+      unfolding expr_laws expr_over opened
+      cascades_settled x y more fits on each sought = second_settled (open_wider (throw_laws inner X) (λ z fits. without_on z) (λ z fits. without_on_half z)) behind_read (apart refl) (t.plain x (g.to_cascades (y ∷ more))) (inr ((x, y ∷ more), inr ((fits, on), (refl, each)), refl)) (cascades_known x y more fits on each sought)

@@ -6,7 +6,7 @@ use Rattle.dart_token.specs.declared.sign.Sign.TheVariants as s
 use Rattle.dart_token.specs.declared.word.Word.TheVariants as w
 use Rattle.dart_tree.specs.Tree as t
 use Rattle.dart_tree.specs.Tree.{Operand, Primary, Selector}
-use Rattle.dart_tree.specs.Tokens.{expr_tokens, operand_tokens, primary_tokens, arguments_tokens}
+use Rattle.dart_tree.specs.Tokens.{expr_tokens, operand_tokens, primary_tokens, arguments_tokens, parameters_tokens, block_tokens}
 use Rattle.grammar_laws.specs.Codes.{Within, nowhere}
 use Rattle.grammar_laws.specs.Readers.{Reader, nothing, mapped, Outcome, and_then}
 use Rattle.grammar_laws.specs.Fronts.{Front, Either, EitherFit, GoodFit, Made, Nothing, Empty}
@@ -28,7 +28,7 @@ use Rattle.syntax_readers.specs.Levels.{whole, target, is_bare, assigns}
 use Rattle.syntax_readers.specs.Statements as rs
 use Rattle.syntax_readers.specs.Statements.{stage}
 use Rattle.laws_expr.specs.Nexts.{after_expr, after_primary, after_operand}
-use Rattle.laws_expr.specs.Statements.{InsideReadAt, collection_first, objects_over, collections_within, functions_within}
+use Rattle.laws_expr.specs.Statements.{OthersReadAt, InsideReadAt, collection_first, objects_over, collections_within, functions_within}
 use Rattle.laws_expr.proofs.Open.{OpenLaws, open_spelling, after_open, bare, tree, no_some, open_checked_laws, open_restated, open_wider, open_first, open_strict_laws, Settled, restated_settled, checked_settled, wider_settled, first_kept}
 use Rattle.laws_expr.proofs.Chain.{half_operand, looser, looser_half}
 use Rattle.laws_expr.proofs.Functions.{half_expr, half_primary}
@@ -40,7 +40,7 @@ use Rattle.laws_expr.proofs.Stages.{known_at, names_dot_at}
 use Rattle.laws_expr.proofs.Unary.{primary_first}
 use Rattle.laws_expr.proofs.Selected.{selected_on, primary_on, primary_on_half}
 use Rattle.laws_expr.proofs.Sets.{not_false}
-use Rattle.laws_expr.proofs.Depths.{row_of}
+use Rattle.laws_expr.proofs.Depths.{row_of, RowFits, row_front}
 use Rattle.laws_expr.proofs.Rising.{not_bare_at}
 use Rattle.laws_expr.proofs.Primary.{PrimaryFits, AloneFits, primary_front}
 
@@ -63,7 +63,12 @@ pub inside_none : InsideReadAt 0
 unfolding rs.stage gs.within
 inside_none = record { expr = open_strict_laws expr_none; arguments = nothing_laws arguments_tokens (these s.LeftParenthesis) nowhere false }
 
-function_none : OpenLaws (stage 0).nodes.exprs.function primary_tokens (functions_within 0).Fits (functions_within 0).front (these s.LeftParenthesis) after_primary half_primary
+-- parameters and blocks, of which there are none either
+pub others_none : OthersReadAt 0
+unfolding rs.stage gs.within
+others_none = record { parameters = nothing_laws parameters_tokens (these s.LeftParenthesis) nowhere false; block = nothing_laws block_tokens (these s.LeftBrace) nowhere false }
+
+pub function_none : OpenLaws (stage 0).nodes.exprs.function primary_tokens (functions_within 0).Fits (functions_within 0).front (these s.LeftParenthesis) after_primary half_primary
 unfolding rs.stage functions_within
 function_none = no_laws primary_tokens (these s.LeftParenthesis) after_primary half_primary
 
@@ -71,7 +76,7 @@ function_ends : Bodied (functions_within 0).Fits (functions_within 0).front
 unfolding functions_within
 function_ends = record { ends = λ x wrong rest. absurd wrong; begins = λ ts f. inl (ap behind_brackets f) }
 
-collection_none : Laws class_of (stage 0).nodes.exprs.collection primary_tokens (collections_within 0).Fits (collections_within 0).front collection_first nowhere false
+pub collection_none : Laws class_of (stage 0).nodes.exprs.collection primary_tokens (collections_within 0).Fits (collections_within 0).front collection_first nowhere false
 unfolding rs.stage collections_within
 collection_none = nothing_laws primary_tokens collection_first nowhere false
 
@@ -210,7 +215,33 @@ module _ (i : ℕ) where
   unfolding gs.within
   row_into ts f = inl f
 
-  -- the operands of each row, where `super` alone is refused once more
+  flat_forth : (x : Operand) → GoodFit (Made t.primary (PrimaryFits 0)) (λ y. not (is_bare y)) x → (row_of 0 i).Fits x
+  unfolding gs.within
+  flat_forth x ((p, fits, is), good) = (p, plain p fits (ap is_bare is ∙ not_false (is_bare x) good), is)
+
+  flat_back : (x : Operand) → (row_of 0 i).Fits x → GoodFit (Made t.primary (PrimaryFits 0)) (λ y. not (is_bare y)) x
+  unfolding gs.within
+  flat_back x (p, fits, is) = ((p, inl fits, is), ap not (not_bare_at 0 i x (p, fits, is)))
+
+  -- the operands of each row
+  pub row_flat : OpenLaws ((stage 0).levels.row i) operand_tokens (row_of 0 i).Fits (row_of 0 i).front operand_first (after_operand (12 - i)) (half_operand (12 - i))
+  unfolding rs.stage rl.flat_levels whole
+  row_flat = open_first (open_wider (open_restated (open_checked_laws (alone_laws primary_none) (λ y. not (is_bare y))) flat_forth flat_back row_out row_into)
+      (λ x fits. looser 12 (12 - i) x (omega arith)) (λ x fits. looser_half 12 (12 - i) x (omega arith))) (inside refl)
+
+  pub row_flat_settled : (next : ℕ) (x : Operand) → (row_of 0 i).Fits x → leaves next x ≡ true → Settled row_flat x
+  unfolding rs.stage rl.flat_levels whole row_flat gs.within
+  row_flat_settled next x (p, fits, is) left =
+      let checked = open_checked_laws (alone_laws primary_none) (λ y. not (is_bare y)) in
+      let restated = open_restated checked flat_forth flat_back row_out row_into in
+      let good : not (is_bare (t.primary p)) ≡ true = ap not (not_bare_at 0 i (t.primary p) (p, fits, refl)) in
+      let one = primary_none_settled next p (inl fits) (subst (λ (y : Operand). leaves next y ≡ true) (sym is) left) in
+      subst (Settled row_flat) is
+      (first_kept (open_wider restated (λ y known. looser 12 (12 - i) y (omega arith)) (λ y known. looser_half 12 (12 - i) y (omega arith))) (inside refl) (t.primary p)
+      (wider_settled restated (λ y known. looser 12 (12 - i) y (omega arith)) (λ y known. looser_half 12 (12 - i) y (omega arith)) (t.primary p)
+      (restated_settled checked flat_forth flat_back row_out row_into (t.primary p) (checked_settled (alone_laws primary_none) (λ y. not (is_bare y)) (t.primary p) good (alone_settled primary_none p one)))))
+
+  -- where `super` alone is refused once more
   pub row_none : OpenLaws (whole ((stage 0).levels.row i)) operand_tokens (row_of 0 i).Fits (row_of 0 i).front operand_first (after_operand (12 - i)) (half_operand (12 - i))
   unfolding rs.stage rl.flat_levels whole
   row_none = open_first (open_wider (open_restated (open_checked_laws (open_checked_laws (alone_laws primary_none) (λ y. not (is_bare y))) (λ y. not (is_bare y))) row_forth row_back row_out row_into)
@@ -258,3 +289,28 @@ target_none_settled next x (p, (fits, on), is) left =
     let one = primary_none_settled next p (inl fits) (subst (λ (y : Operand). leaves next y ≡ true) (sym is) left) in
     subst (Settled target_none) is
     (restated_settled (open_checked_laws (alone_laws primary_none) assigns) target_forth target_back target_out target_into (t.primary p) (checked_settled (alone_laws primary_none) assigns (t.primary p) on (alone_settled primary_none p one)))
+
+-- ---- a first operand, for which `super` alone has no room either
+
+first_forth : (x : Operand) → (row_of 0 0).Fits x → RowFits 0 0 x
+first_forth x fits = inl fits
+
+first_back : (x : Operand) → RowFits 0 0 x → (row_of 0 0).Fits x
+unfolding gs.within
+first_back x (inl fits) = fits
+first_back x (inr wrong) = absurd wrong
+
+first_out : (ts : List Token) → (row_of 0 0).front ts → row_front 0 0 ts
+first_out ts f = inl f
+
+first_into : (ts : List Token) → row_front 0 0 ts → (row_of 0 0).front ts
+unfolding gs.within
+first_into ts (inl f) = f
+first_into ts (inr none) = subst (row_of 0 0).front (sym none) (row_flat 0).laws.none
+
+pub first_none : OpenLaws ((stage 0).levels.row 0) operand_tokens (RowFits 0 0) (row_front 0 0) operand_first (after_operand 12) (half_operand 12)
+first_none = open_restated (row_flat 0) first_forth first_back first_out first_into
+
+pub first_none_settled : (next : ℕ) (x : Operand) → RowFits 0 0 x → leaves next x ≡ true → Settled first_none x
+unfolding first_none
+first_none_settled next x fits left = restated_settled (row_flat 0) first_forth first_back first_out first_into x (row_flat_settled 0 next x (first_back x fits) left)

@@ -19,7 +19,9 @@ pub mod Functions
 pub mod Stages
 pub mod Unary
 pub mod Rows
+pub mod Refusing
 pub mod Rising
+pub mod Shifted
 pub mod Halved
 pub mod Shifts
 pub mod Begun
@@ -43,8 +45,11 @@ pub mod Enclosed
 pub mod Bracketed
 pub mod Parentheses
 pub mod Depths
+pub mod Stacked
 pub mod Table
 pub mod Primary
 pub mod Heads
 pub mod Floor
 pub mod Nodes
+pub mod Reading
+pub mod Recursion

@@ -1,5 +1,5 @@
 -- Expressions, those without cascade, and the parts of cascades at a depth (ECMA-408, 16 Expressions), over the last row and the same one node less deep.
-use Rattle.std.proofs.Common.{◌≡◌, ℕ, zero, suc, true, List, [], length, inl, inr, ap, sym, ◌∙◌, arith}
+use Rattle.std.proofs.Common.{◌≡◌, ℕ, zero, suc, ◌≤◌, true, List, [], ◌∷◌, length, inl, inr, ap, sym, ◌∙◌, subst, arith}
 use Rattle.dart_base.specs.declared.place.Place.{Place}
 use Rattle.dart_token.specs.declared.token.Token.{Token}
 use Rattle.dart_token.specs.declared.sign.Sign.TheVariants as s
@@ -7,16 +7,16 @@ use Rattle.dart_token.specs.declared.word.Word.TheVariants as w
 use Rattle.dart_tree.specs.declared.operator.Operator.{Operator}
 use Rattle.dart_tree.specs.LeafTokens.{operator_tokens}
 use Rattle.dart_tree.specs.Tree as t
-use Rattle.dart_tree.specs.Tree.{Expr, Operand, Selectors, Value}
-use Rattle.dart_tree.specs.Tokens.{expr_tokens, operand_tokens, primary_tokens, selector_tokens}
+use Rattle.dart_tree.specs.Tree.{Expr, Operand, Selectors, Value, Cascades}
+use Rattle.dart_tree.specs.Tokens.{expr_tokens, operand_tokens, primary_tokens, selector_tokens, cascades_tokens}
 use Rattle.grammar_laws.specs.Readers.{always}
-use Rattle.grammar_laws.specs.Fronts.{Front, Empty, Joint, Several, Either, EitherFit, BothFit, GoesOn, SomeFit, Made}
+use Rattle.grammar_laws.specs.Fronts.{Front, Empty, Joint, Several, Either, EitherFit, BothFit, GoesOn, SomeFit, Made, both_spelling}
 use Rattle.grammar_laws.proofs.Codes.{clash}
-use Rattle.dart_syntax.specs.Phrases.{Anything}
+use Rattle.dart_syntax.specs.Phrases.{Phrase, Anything}
 use Rattle.dart_syntax.specs.Leaves as l
 use Rattle.dart_syntax.specs.Leaves.{word_tokens}
 use Rattle.dart_syntax.specs.Agreement.{section_tokens}
-use Rattle.dart_syntax.specs.Edges.{dots, question, opens_nothing, leaves, leaves_cascade}
+use Rattle.dart_syntax.specs.Edges.{dots, question, opens_nothing, leaves, leaves_cascade, expr_takes, operand_takes}
 use Rattle.dart_syntax.specs.Expressions as g
 use Rattle.dart_syntax.specs.Statements as gs
 use Rattle.dart_syntax.specs.Statements.{within}
@@ -24,25 +24,31 @@ use Rattle.dart_syntax.proofs.AgreeingStages.{within_agrees}
 use Rattle.token_codes.specs.Codes.{these}
 use Rattle.syntax_readers.specs.Primaries.{operand_first, expr_first}
 use Rattle.syntax_readers.specs.Levels.{assigns}
+use Rattle.syntax_readers.specs.Expressions.{expr_over, without_over, cascaded_over}
 use Rattle.syntax_readers.specs.Statements as rs
 use Rattle.syntax_readers.specs.Statements.{stage}
 use Rattle.syntax_measures.specs.Relations.{LevelsRelate}
 use Rattle.syntax_measures.specs.Fronts.{Grows, grows}
 use Rattle.syntax_measures.proofs.Grows.{grows_walk}
-use Rattle.syntax_measures.proofs.WalkLevels.{walk_expr, walk_without}
-use Rattle.laws_expr.specs.Nexts.{after_expr, after_without, after_operand, after_cascade}
+use Rattle.syntax_measures.proofs.WalkLevels.{walk_cascaded, walk_expr, walk_without}
+use Rattle.laws_expr.specs.Nexts.{after_expr, after_without, after_operand, after_cascade, after_cascaded}
 use Rattle.laws_expr.specs.Statements.{InsideReadAt}
-use Rattle.laws_expr.proofs.Open.{OpenLaws, Settled, open_restated}
+use Rattle.laws_expr.specs.Statements.{cascaded_over as initialised}
+use Rattle.laws_expr.proofs.Open.{OpenLaws, Settled, open_restated, restated_settled}
 use Rattle.laws_expr.proofs.Chain.{half_operand}
 use Rattle.laws_expr.proofs.Once.{half_without}
 use Rattle.laws_expr.proofs.Functions.{half_expr}
-use Rattle.laws_expr.proofs.Cascades.{half_cascade, cascade_laws}
+use Rattle.laws_expr.proofs.Cascades.{half_cascade, cascade_laws, cascade_settled}
+use Rattle.laws_expr.proofs.Cascaded.{half_cascaded, cascaded_laws}
 use Rattle.laws_expr.proofs.Throwing.{without_laws}
+use Rattle.laws_expr.proofs.Throwing as th
 use Rattle.laws_expr.proofs.Expressions.{expr_laws}
+use Rattle.laws_expr.proofs.Expressions as ex
+use Rattle.laws_expr.proofs.Refusing.{refuses, expr_refuses, cascade_refuses, value_refuses, cascades_refuse}
 use Rattle.laws_expr.proofs.Stages.{known_at}
 use Rattle.laws_expr.proofs.Depths.{row_of}
 use Rattle.laws_expr.proofs.Rising.{rising_at, target_down}
-use Rattle.laws_expr.proofs.Table.{plainly, nodes_at, from_plain, to_plain, nodes_from, nodes_to}
+use Rattle.laws_expr.proofs.Stacked.{plainly, nodes_at, from_plain, to_plain, nodes_from, nodes_to}
 
 -- ---- what may be assigned to, as an operand of the last row
 
@@ -114,6 +120,15 @@ module _ (n : ℕ) where
 
   expr_to : Grows (g.expr_over nodes levels) (g.expr_over (nodes_at n) levels_at)
   expr_to = walk_expr grows_walk {m = n} (nodes_to n) levels_to
+
+  cascaded_from : Grows (g.cascaded_over (nodes_at n) levels_at) (g.cascaded_over nodes levels)
+  cascaded_from = walk_cascaded grows_walk {m = n} (nodes_from n) levels_from
+
+  cascaded_to : Grows (g.cascaded_over nodes levels) (g.cascaded_over (nodes_at n) levels_at)
+  cascaded_to = walk_cascaded grows_walk {m = n} (nodes_to n) levels_to
+
+  abbrev whole_cascaded : Phrase (Operand × Cascades)
+  whole_cascaded = initialised nodes levels
 
   without_from : Grows (g.without_over (nodes_at n) levels_at) (g.without_over nodes levels)
   without_from = walk_without grows_walk {m = n} (nodes_from n) levels_from
@@ -223,9 +238,12 @@ module _ (n : ℕ) where
     begun : (ts : List Token) → levels.target.front ts → last_front ts
     begun ts f = front_up n 11 ts (target_begins n ts f)
 
+    dotted : (x : Operand) → Last x → operand_takes dots opens_nothing dots x ≡ true
+    dotted x fits = rising_at n 11 x fits dots opens_nothing (omega arith)
+
     pub expr_at : OpenLaws (stage (suc n)).nodes.exprs.expr expr_tokens (within (suc n)).nodes.expr_nodes.expr.Fits (within (suc n)).nodes.expr_nodes.expr.front expr_first after_expr half_expr
     unfolding rs.stage rs.nodes_over
-    expr_at = open_restated (expr_laws (stage n).nodes.exprs X C (stage n).levels Row decide (λ x fits. rising_at n 11 x fits dots opens_nothing (omega arith)) to_target of_target begun) expr_forth expr_back expr_out expr_into
+    expr_at = open_restated (expr_laws (stage n).nodes.exprs X C (stage n).levels Row decide dotted to_target of_target begun) expr_forth expr_back expr_out expr_into
 
     pub without_at : OpenLaws (stage (suc n)).nodes.exprs.without expr_tokens (within (suc n)).nodes.expr_nodes.without.Fits (within (suc n)).nodes.expr_nodes.without.front expr_first after_without half_without
     unfolding rs.stage rs.nodes_over
@@ -234,3 +252,49 @@ module _ (n : ℕ) where
     pub cascade_at : OpenLaws (stage (suc n)).nodes.exprs.cascade section_tokens (within (suc n)).nodes.expr_nodes.cascade.Fits (within (suc n)).nodes.expr_nodes.cascade.front (these s.DotDot) after_cascade half_cascade
     unfolding rs.stage rs.nodes_over gs.within gs.nodes_over
     cascade_at = cascade_laws (known_at n Below) W
+
+    -- a conditional expression with its cascades, as an initialiser has it
+    pub cascaded_at : OpenLaws (cascaded_over (stage n).nodes.exprs (stage n).levels) (both_spelling operand_tokens cascades_tokens) (whole_cascaded.Fits) (whole_cascaded.front) operand_first after_cascaded half_cascaded
+    cascaded_at = open_restated (cascaded_laws (stage n).nodes.exprs C (stage n).levels Row dotted) (λ x fits. fits) (λ x fits. fits) cascaded_from.begins cascaded_to.begins
+
+    -- ---- a `>` behind them is given as a half, or stopped before, where their edges take no operator that binds so
+
+    module _ (next : ℕ) (reached : question ≤ next)
+        (expr_settled : (x : Expr) → nodes.expr.Fits x → expr_refuses next x ≡ true → Settled X x) (without_settled : (x : Expr) → nodes.without.Fits x → expr_refuses next x ≡ true → Settled W x)
+        (part_settled : (x : Place × (Selectors × Value)) → nodes.cascade.Fits x → cascade_refuses next x ≡ true → Settled C x) (row_settled : (x : Operand) → Last x → refuses next x ≡ true → Settled Row x) where
+      abbrev read_expr : OpenLaws (expr_over (stage n).nodes.exprs (stage n).levels) expr_tokens (EitherFit Thrown (EitherFit (Assigned nodes.expr.Fits) Plain)) (Either thrown_front (Either (assigned_front nodes.expr.front) plain_front)) expr_first after_expr half_expr
+      read_expr = expr_laws (stage n).nodes.exprs X C (stage n).levels Row decide dotted to_target of_target begun
+
+      expr_kind : (x : Expr) → EitherFit Thrown (EitherFit (Assigned nodes.expr.Fits) Plain) x → expr_refuses next x ≡ true → Settled read_expr x
+      unfolding expr_takes
+      expr_kind x (inl ((word, e), (at, fits), is)) off = subst (Settled read_expr) is (ex.thrown_settled (stage n).nodes.exprs X C (stage n).levels Row decide dotted to_target of_target begun word e fits (expr_settled e fits (subst (λ (z : Expr). expr_refuses next z ≡ true) (sym is) off)))
+      expr_kind x (inr (inl ((y, (op, e)), (target, (known, fits)), is))) off =
+          subst (Settled read_expr) is (ex.value_settled (stage n).nodes.exprs X C (stage n).levels Row decide dotted to_target of_target begun (expr_refuses next) expr_settled (cascade_refuses next) part_settled y op e target known fits (subst (λ (z : Expr). expr_refuses next z ≡ true) (sym is) off))
+      expr_kind x (inr (inr ((y, all), inl (fits, none), is))) off =
+          let whole : t.plain y t.no_cascades ≡ x = ap (λ (m : List (Place × (Selectors × Value))). t.plain y (g.to_cascades m)) (sym none) ∙ is in
+          subst (Settled read_expr) whole (ex.plain_settled (stage n).nodes.exprs X C (stage n).levels Row decide dotted to_target of_target begun y fits (λ plain. row_settled y fits (subst (λ (z : Expr). expr_refuses next z ≡ true) (sym whole) off)))
+      expr_kind x (inr (inr ((y, []), inr (fits, (some, each)), is))) off = absurd cc
+      expr_kind x (inr (inr ((y, z ∷ more), inr ((fits, on), (some, each)), is))) off =
+          subst (Settled read_expr) is (ex.cascades_settled (stage n).nodes.exprs X C (stage n).levels Row decide dotted to_target of_target begun (expr_refuses next) expr_settled (cascade_refuses next) part_settled y z more fits on each (cascades_refuse next y z more (subst (λ (v : Expr). expr_refuses next v ≡ true) (sym is) off)))
+
+      pub expr_known : (x : Expr) → (within (suc n)).nodes.expr_nodes.expr.Fits x → expr_refuses next x ≡ true → Settled expr_at x
+      unfolding expr_at rs.stage rs.nodes_over
+      expr_known x fits off = restated_settled read_expr expr_forth expr_back expr_out expr_into x (expr_kind x (expr_back x fits) off)
+
+      abbrev read_without : OpenLaws (without_over (stage n).nodes.exprs (stage n).levels) expr_tokens (EitherFit Thrown (EitherFit (Assigned nodes.without.Fits) Alone)) (Either thrown_front (Either (assigned_front nodes.without.front) last_front)) expr_first after_without half_without
+      read_without = without_laws (stage n).nodes.exprs (stage n).levels nodes W Row decide to_target of_target begun X
+
+      without_kind : (x : Expr) → EitherFit Thrown (EitherFit (Assigned nodes.without.Fits) Alone) x → expr_refuses next x ≡ true → Settled read_without x
+      unfolding expr_takes
+      without_kind x (inl ((word, e), (at, fits), is)) off = subst (Settled read_without) is (th.thrown_settled (stage n).nodes.exprs (stage n).levels nodes W Row decide to_target of_target begun X word e fits (expr_settled e fits (subst (λ (z : Expr). expr_refuses next z ≡ true) (sym is) off)))
+      without_kind x (inr (inl ((y, (op, e)), (target, (known, fits)), is))) off = subst (Settled read_without) is (th.value_settled (stage n).nodes.exprs (stage n).levels nodes W Row decide to_target of_target begun (expr_refuses next) without_settled X y op e target known fits (subst (λ (z : Expr). expr_refuses next z ≡ true) (sym is) off))
+      without_kind x (inr (inr (y, fits, is))) off = subst (Settled read_without) is (th.plain_settled (stage n).nodes.exprs (stage n).levels nodes W Row decide to_target of_target begun X y fits (λ plain. row_settled y fits (subst (λ (z : Expr). expr_refuses next z ≡ true) (sym is) off)))
+
+      pub without_known : (x : Expr) → (within (suc n)).nodes.expr_nodes.without.Fits x → expr_refuses next x ≡ true → Settled without_at x
+      unfolding without_at rs.stage rs.nodes_over
+      without_known x fits off = restated_settled read_without without_forth without_back without_out without_into x (without_kind x (without_back x fits) off)
+
+      pub cascade_known : (x : Place × (Selectors × Value)) → (within (suc n)).nodes.expr_nodes.cascade.Fits x → cascade_refuses next x ≡ true → Settled cascade_at x
+      unfolding cascade_at rs.stage rs.nodes_over gs.within gs.nodes_over
+      cascade_known (place, (behind, value)) fits off = cascade_settled (known_at n Below) W (expr_refuses next) without_settled place behind value fits
+          (λ op e is. value_refuses next reached place behind op e (subst (λ (y : Value). cascade_refuses next (place, (behind, y)) ≡ true) is off))

@@ -155,3 +155,9 @@ module _ {A : Type 0} {read : Reader Token (Open A)} {tokens : A → List Token}
       by : (b : Bool) → b ≡ true → Apart (sharp_by b (next x)) (these s.Greater)
       by true e = without_apart (sign_code s.Greater) (next x)
       by false e = absurd cc
+
+    pub sharp_stops : (x : A) → asks x ≡ true → reads_half x ≡ false → has (sharp x) (sign_code s.Greater) ≡ false
+    sharp_stops x on none = not_true (has (sharp x) (sign_code s.Greater)) (λ k. (sharp_apart x on none).never_both (sign_code s.Greater) k refl)
+
+    abbrev pub refined_open : OpenLaws read tokens F front first sharp half
+    refined_open = record { Fits = P.Fits; none_in = P.none_in; none_out = P.none_out; some_out = P.some_out; laws = refined_laws }

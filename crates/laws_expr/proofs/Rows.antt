@@ -1,5 +1,5 @@
 -- The rows of the grammar's table: each shape has one law.
-use Rattle.std.proofs.Common.{◌≡◌, ℕ, suc, ◌<◌, Bool, true, false, not, List, [], ◌∷◌, inl, inr, refl, ap, sym, subst, ◌∙◌, Some, ◌⊎◌, ◌&&◌}
+use Rattle.std.proofs.Common.{◌≡◌, ℕ, suc, ◌≤◌, ◌<◌, Bool, true, false, not, List, [], ◌∷◌, inl, inr, refl, ap, sym, subst, ◌∙◌, Some, ◌⊎◌, ◌&&◌}
 use Rattle.dart_token.specs.declared.token.Token.{Token}
 use Rattle.dart_token.specs.declared.sign.Sign.{Sign}
 use Rattle.dart_token.specs.declared.sign.Sign.TheVariants as s
@@ -32,7 +32,9 @@ use Rattle.laws_expr.proofs.Open.{OpenLaws, Settled}
 use Rattle.laws_expr.proofs.Edges.{at, codes_at, others_apart}
 use Rattle.laws_expr.proofs.Chain.{half_operand, chain_laws, operand_settled, node_settled, operand_kept}
 use Rattle.laws_expr.proofs.Tails.{last_leaves}
-use Rattle.laws_expr.proofs.Once.{once_laws, once_operand_settled}
+use Rattle.laws_expr.proofs.Once.{once_laws, once_operand_settled, once_node_settled}
+use Rattle.laws_expr.proofs.Refusing.{refuses, last_refuses, tail_refuses}
+use Rattle.laws_expr.proofs.Sets.{not_false}
 use Rattle.laws_expr.proofs.Shifts.{shift_laws}
 use Rattle.laws_expr.proofs.Shifts as sh
 use Rattle.laws_expr.proofs.Relational.{relational_laws}
@@ -135,6 +137,16 @@ module _ {n : ℕ} (inner : ExprReaders) (nodes : g.ExprNodes) {here lower : Rea
   unfolding logical_laws row_over
   logical_kept sign row is again O x fits settled = operand_settled (sign_level sign) n (sign ∷ []) row is.others is.own is.here is.apart_alone again (one_of_reads (sign ∷ []) is.distinct) is.leveled O.above lower O.below O.down O.up O.rise O.rises x fits settled
 
+  -- and where its last operand, like the row, takes no operator that binds so
+  pub logical_settled : (sign : Sign) (row : ℕ) (is : IsRow (sign ∷ []) (sign_level sign) row) (again : repeats (sign_level sign) ≡ true) (O : Operands n (sign_level sign) here lower F U U front ufront ufront first ufirst) (next : ℕ) → suc (sign_level sign) ≤ next →
+      ((x : Operand) → U x → refuses next x ≡ true → Settled O.below x) → ((x : Operand) → F x → refuses next x ≡ true → Settled O.above x) →
+      (x : Operand) → EitherFit F (g.row_over (g.logical sign) nodes (operands U ufront)).Fits x → refuses next x ≡ true → Settled (logical_laws sign row is again O) x
+  unfolding logical_laws row_over
+  logical_settled sign row is again O next tight low high x (inl fits) off = operand_settled (sign_level sign) n (sign ∷ []) row is.others is.own is.here is.apart_alone again (one_of_reads (sign ∷ []) is.distinct) is.leveled O.above lower O.below O.down O.up O.rise O.rises x fits (high x fits off)
+  logical_settled sign row is again O next tight low high x (inr ((y, all), ((d, on), some), e)) off =
+      subst (Settled (logical_laws sign row is again O)) e (node_settled (sign_level sign) n (sign ∷ []) row is.others is.own is.here is.apart_alone again (one_of_reads (sign ∷ []) is.distinct) is.leveled O.above lower O.below O.down O.up O.rise O.rises (refuses next) low y all d on some
+      (last_refuses next (sign_level sign) tight (l.one_of (sign ∷ [])).Fits U is.leveled (λ z. leaves (sign_level sign) z.1) y all some.0 some.1 (subst (λ z. refuses next z ≡ true) (sym e) off)))
+
   -- a row of one operator at most, behind which `super` alone is refused
   pub single_laws : (sign : Sign) (more : List Sign) (row : ℕ) → IsRow (sign ∷ more) (sign_level sign) row →
       Operands n (sign_level sign) here lower F U (EitherFit U nodes.bare.Fits) front ufront (Either ufront nodes.bare.front) first ufirst →
@@ -146,6 +158,15 @@ module _ {n : ℕ} (inner : ExprReaders) (nodes : g.ExprNodes) {here lower : Rea
       (x : Operand) → F x → is_bare x ≡ false → Settled O.above x → Settled (single_laws sign more row is O) x
   unfolding single_laws row_over
   single_kept sign more row is O x fits plain settled = once_operand_settled (sign_level sign) n (sign ∷ more) row is.others is.own is.here is.apart_alone (one_of_reads (sign ∷ more) is.distinct) is.leveled O.above lower O.below O.down O.up O.rise O.rises x fits plain settled
+
+  pub single_settled : (sign : Sign) (more : List Sign) (row : ℕ) (is : IsRow (sign ∷ more) (sign_level sign) row) (O : Operands n (sign_level sign) here lower F U (EitherFit U nodes.bare.Fits) front ufront (Either ufront nodes.bare.front) first ufirst) (next : ℕ) → suc (sign_level sign) ≤ next →
+      ((x : Operand) → U x → refuses next x ≡ true → Settled O.below x) → ((x : Operand) → F x → refuses next x ≡ true → Settled O.above x) →
+      (x : Operand) → GoodFit (EitherFit F (g.row_over (g.single sign more) nodes (operands U ufront)).Fits) (λ y. not (is_bare y)) x → refuses next x ≡ true → Settled (single_laws sign more row is O) x
+  unfolding single_laws row_over
+  single_settled sign more row is O next tight low high x (inl fits, plain) off = once_operand_settled (sign_level sign) n (sign ∷ more) row is.others is.own is.here is.apart_alone (one_of_reads (sign ∷ more) is.distinct) is.leveled O.above lower O.below O.down O.up O.rise O.rises x fits (not_false (is_bare x) plain) (high x fits off)
+  single_settled sign more row is O next tight low high x (inr ((y, (o, z)), ((d, on), (known, fits)), e), plain) off =
+      subst (Settled (single_laws sign more row is O)) e (once_node_settled (sign_level sign) n (sign ∷ more) row is.others is.own is.here is.apart_alone (one_of_reads (sign ∷ more) is.distinct) is.leveled O.above lower O.below O.down O.up O.rise O.rises y o z d on known fits
+      (low z fits (tail_refuses next (sign_level sign) tight y o z (is.leveled o known) (subst (λ v. refuses next v ≡ true) (sym e) off))))
 
   -- shifts, where of a `>` behind an operand that leaves them it is known whether it is read with it
   pub shift_row_laws : (O : Operands n (sign_level s.ShiftLeft) here lower F U (EitherFit U nodes.bare.Fits) front ufront (Either ufront nodes.bare.front) first ufirst) →
@@ -192,3 +213,20 @@ module _ {n : ℕ} (inner : ExprReaders) (nodes : g.ExprNodes) {here lower : Rea
   comparison_kept O decide types bare_is plain_is rises x (inl known) (inr none) = re.kept_settled n O.above decide types lower O.below O.down O.up O.rise (plain_of O bare_is) (λ y fits. (inl fits, plain_is y fits)) (λ ts f. inl f) rises x known
   comparison_kept O decide types bare_is plain_is rises x (inr stays) (inr none) =
       re.left_settled n O.above decide types lower O.below O.down O.up O.rise (plain_of O bare_is) (λ y fits. (inl fits, plain_is y fits)) (λ ts f. inl f) rises x stays (ap (λ (b : Bool). b && leaves compares x) none)
+
+  -- a comparison, where its last operand leaves the operator, a test and a cast
+  pub comparison_settled : (O : Operands n compares here lower F U (EitherFit U nodes.bare.Fits) front ufront (Either ufront nodes.bare.front) first operand_first)
+      (decide : (x : Operand) → F x → leaves compares x ≡ true → Settled O.above x) (types : Laws class_of inner.type type_tokens nodes.type.Fits nodes.type.front type_first after_type false)
+      (bare_is : (x : Operand) → nodes.bare.Fits x → is_bare x ≡ true) (plain_is : (x : Operand) → U x → is_bare x ≡ false) (rises : (opens : TypeNode → Bool) (x : Operand) → F x → operand_takes compares opens compares x ≡ true) (next : ℕ) → next < nowhere →
+      ((x : Operand) → U x → leaves next x ≡ true → Settled O.below x) → (x : Operand) → (g.row_over g.comparison nodes (operands U ufront)).Fits x → leaves next x ≡ true → Settled (comparison_laws O decide types bare_is plain_is rises) x
+  unfolding comparison_laws row_over
+  comparison_settled O decide types bare_is plain_is rises next lt low x (inl ((y, (o, z)), ((d, on), (known, fits)), e)) left =
+      subst (Settled (comparison_laws O decide types bare_is plain_is rises)) e (re.compared_settled n O.above decide types lower O.below O.down O.up O.rise (plain_of O bare_is) (λ v known. (inl known, plain_is v known)) (λ ts f. inl f) rises (leaves next) low y o z d (inl (on, known)) fits
+      (last_leaves next lt y ((o, z) ∷ []) refl (subst (λ v. leaves next v ≡ true) (sym e) left)))
+  comparison_settled O decide types bare_is plain_is rises next lt low x (inr (inl ((y, (o, z)), ((d, on), (known, fits)), e))) left =
+      subst (Settled (comparison_laws O decide types bare_is plain_is rises)) e (re.compared_settled n O.above decide types lower O.below O.down O.up O.rise (plain_of O bare_is) (λ v known. (inl known, plain_is v known)) (λ ts f. inl f) rises (leaves next) low y o z d (inr (on, known)) fits
+      (last_leaves next lt y ((o, z) ∷ []) refl (subst (λ v. leaves next v ≡ true) (sym e) left)))
+  comparison_settled O decide types bare_is plain_is rises next lt low x (inr (inr (inl ((y, (place, (bang, of))), fits, e)))) left =
+      subst (Settled (comparison_laws O decide types bare_is plain_is rises)) e (re.test_settled n O.above decide types lower O.below O.down O.up O.rise (plain_of O bare_is) (λ v known. (inl known, plain_is v known)) (λ ts f. inl f) rises y place bang of ((y, (place, (bang, of))), fits, refl))
+  comparison_settled O decide types bare_is plain_is rises next lt low x (inr (inr (inr ((y, (place, of)), fits, e)))) left =
+      subst (Settled (comparison_laws O decide types bare_is plain_is rises)) e (re.cast_settled n O.above decide types lower O.below O.down O.up O.rise (plain_of O bare_is) (λ v known. (inl known, plain_is v known)) (λ ts f. inl f) rises y place of ((y, (place, of)), fits, refl))

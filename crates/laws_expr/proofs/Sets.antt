@@ -29,3 +29,7 @@ given_on false xs e = absurd cc
 
 pub given_more : (b c : Bool) (xs : List ℕ) → (b ≡ true → c ≡ true) → Within (given b xs) (given c xs)
 given_more b c xs on = within_given b (λ e. given_on c xs (on e))
+
+pub given_misses : (b : Bool) (xs : List ℕ) (m : ℕ) → has xs m ≡ false → has (given b xs) m ≡ false
+given_misses true xs m e = e
+given_misses false xs m e = refl

@@ -1,5 +1,5 @@
 -- The laws of the readers of `throw`, and of expressions without cascade from those of conditional ones (ECMA-408, 16 Expressions).
-use Rattle.std.proofs.Common.{◌≡◌, ℕ, Bool, true, false, List, ◌++◌, length, Option, None, Some, Ok, Err, inl, inr, refl, ap, sym, ◌∙◌, subst, append_assoc}
+use Rattle.std.proofs.Common.{◌≡◌, ℕ, Bool, true, false, List, ◌∷◌, ◌++◌, length, Option, None, Some, Ok, Err, inl, inr, refl, ap, sym, ◌∙◌, subst, append_assoc}
 use Rattle.std.proofs.lemmas.List.{append-nil}
 use Rattle.dart_base.specs.declared.place.Place.{Place}
 use Rattle.dart_token.specs.declared.token.Token.{Token}
@@ -7,10 +7,10 @@ use Rattle.dart_token.specs.declared.sign.Sign.TheVariants as s
 use Rattle.dart_token.specs.declared.word.Word.TheVariants as w
 use Rattle.dart_tree.specs.declared.operator.Operator.{Operator}
 use Rattle.dart_tree.specs.declared.expression.Atom.TheVariants as a
-use Rattle.dart_tree.specs.LeafTokens.{operator_tokens}
+use Rattle.dart_tree.specs.LeafTokens.{sign_at, operator_tokens}
 use Rattle.dart_tree.specs.Tree as t
 use Rattle.dart_tree.specs.Tree.{Expr, Operand}
-use Rattle.dart_tree.specs.Tokens.{expr_tokens, operand_tokens}
+use Rattle.dart_tree.specs.Tokens.{expr_tokens, operand_tokens, cascades_tokens}
 use Rattle.grammar_laws.specs.Codes.{has, Apart, Within, given, after_followed_by}
 use Rattle.grammar_laws.specs.Readers.{Outcome, Reader, and_then, always, never, mapped, when, starts, continued_by}
 use Rattle.grammar_laws.specs.Fronts.{Front, Joint, Either, EitherFit, BothFit, Made, option_spelling}
@@ -31,14 +31,15 @@ use Rattle.syntax_readers.specs.Primaries.{ExprReaders, operand_first, expr_firs
 use Rattle.syntax_readers.specs.Levels.{LevelReaders, assigns}
 use Rattle.syntax_readers.specs.Expressions.{Assigned, Behind, assigned, an_expr, assign_codes, assignment, opened, throw, without_over}
 use Rattle.laws_expr.specs.Nexts.{Taking, nexts, taken, assigning, stepping, expr_alone, operand_alone, after_expr, after_without, after_operand}
-use Rattle.laws_expr.proofs.Open.{OpenLaws, Settled, open_spelling, half_tokens, after_open, bare, tree, no_some, prefix_laws, open_by_first_laws, tree_fits}
+use Rattle.laws_expr.proofs.Open.{OpenLaws, Settled, open_spelling, half_tokens, after_open, bare, tree, no_some, prefix_laws, prefix_settled, open_by_first_laws, first_settled, second_settled, tree_fits}
 use Rattle.laws_expr.proofs.Edges.{within_at, apart_all}
 use Rattle.laws_expr.proofs.Chain.{half_of, half_operand}
 use Rattle.laws_expr.proofs.Once.{half_without}
 use Rattle.laws_expr.proofs.Functions.{half_expr}
-use Rattle.laws_expr.proofs.Halved.{halved_laws}
+use Rattle.laws_expr.proofs.Halved.{halved_laws, halved_settled}
+use Rattle.laws_expr.proofs.Refined.{reads_half, half_read, sharp, sharp_stops, refined_open}
 use Rattle.laws_expr.proofs.Assigning.{parts, same_parts, parts_spell, PartsFit, Said, parts_laws}
-use Rattle.laws_expr.proofs.Sets.{given_more, apart_when}
+use Rattle.laws_expr.proofs.Sets.{given_more, given_misses, apart_when}
 use Rattle.laws_expr.proofs.Divided.{AssignFits, second_tokens, one_of_said, assign_out}
 
 -- ---- what goes on behind a target
@@ -82,7 +83,15 @@ module _ (inner : ExprReaders) {E : Expr → Type 0} {efront : Front Token} (X :
   unfolding throw expr_tokens expr_takes expr_alone
   throw_laws = prefix_laws (word_reads w.Throw) X (λ place fits. apart_none expr_first) t.throw expr_tokens after_without half_without (λ place x at fits. refl) (λ place x at fits. within_self (after_expr x)) (λ place x at fits. within_self (half_expr x))
 
+  pub throw_settled : (word : Place) (e : Expr) → E e → Settled X e → Settled throw_laws (t.throw word e)
+  unfolding throw throw_laws expr_tokens expr_takes expr_alone
+  throw_settled word e fits settled = prefix_settled (word_reads w.Throw) X (λ place fits. apart_none expr_first) t.throw expr_tokens after_without half_without (λ place x at fits. refl) (λ place x at fits. within_self (after_expr x)) (λ place x at fits. within_self (half_expr x)) word e tt fits settled
+
 -- ---- expressions without cascade
+
+pub plain_list : (x : Operand) (m : List Token) → open_spelling expr_tokens (t.plain x t.no_cascades, None) ++ m ≡ open_spelling operand_tokens (x, None) ++ m
+unfolding expr_tokens cascades_tokens
+plain_list x m = simp append-nil
 
 assign_of : (x : Operand) (op : Operator) (e : Open Expr) → Within (after_open after_without half_without e) (after_open after_without half_without (with_half (t.assign x op) e))
 unfolding expr_takes expr_alone
@@ -279,3 +288,52 @@ module _ (inner : ExprReaders) (levels : LevelReaders) (nodes : g.ExprNodes)
       OpenLaws (without_over inner levels) expr_tokens (EitherFit (Throwing inner X) Of) (Either (throwing_front inner X) of_front) expr_first after_without half_without
   unfolding without_over opened
   without_laws X = open_by_first_laws (throw_laws inner X) assigned_laws (apart refl)
+
+  -- ---- a `>` behind them is given as a half, or stopped before, as behind the last part
+
+  pub thrown_settled : {E : Expr → Type 0} {efront : Front Token} (X : OpenLaws inner.expr expr_tokens E efront expr_first after_expr half_expr) (word : Place) (e : Expr) → E e → Settled X e → Settled (without_laws X) (t.throw word e)
+  unfolding without_laws without_over opened
+  thrown_settled X word e fits settled = first_settled (throw_laws inner X) assigned_laws (apart refl) (t.throw word e) ((word, e), (tt, fits), refl) (throw_settled inner X word e fits settled)
+
+  abbrev asked_tail : Outcome Token (Open Operand) → Outcome Token (Open Expr)
+  asked_tail q = and_then (and_then q (λ x mid. and_then (when (starts class_of (given (assigns x.0) (assign_codes x.1)) mid) (mapped assigned (assignment x.1 inner.without)) mid) (λ y z. Ok ((x, y), z)))) (λ p z. Ok (an_expr p, z))
+
+  alone_settled : (x : Operand) → R x → (assigns x ≡ false → Settled Row x) → Settled assigned_laws (t.plain x t.no_cascades)
+  unfolding assigned_laws class_of
+  alone_settled x fits settled = elim (halved_settled Row assigns decide x fits settled) as (λ _. Settled assigned_laws (t.plain x t.no_cascades)) [
+    | inl known ↦ inl (λ g. (((x, Some g), None), (known g, refl), refl))
+    | inr stays ↦ inr (λ g ts. ap (mapped an_expr raw_behind) (plain_list x (sign_at g s.Greater ∷ ts)) ∙ ap asked_tail (stays g ts)
+        ∙ ap (λ (c : Bool). raw_tail c (x, None) (sign_at g s.Greater ∷ ts)) (given_misses (assigns x) (sign_codes assignment_signs) (sign_code s.Greater) refl))
+  ]
+
+  pub plain_settled : {E : Expr → Type 0} {efront : Front Token} (X : OpenLaws inner.expr expr_tokens E efront expr_first after_expr half_expr) (x : Operand) → R x → (assigns x ≡ false → Settled Row x) → Settled (without_laws X) (t.plain x t.no_cascades)
+  unfolding without_laws without_over opened
+  plain_settled X x fits settled = second_settled (throw_laws inner X) assigned_laws (apart refl) (t.plain x t.no_cascades) (inr (x, fits, refl)) (alone_settled x fits settled)
+
+  module _ (asks : Expr → Bool) (settled : (e : Expr) → nodes.without.Fits e → asks e ≡ true → Settled W e) where
+    sharp_parts : Laws class_of reader spelled Part said_front operand_first (after_followed_by (after_open after_half (half_operand question)) (λ (x : Open Operand). assigns x.0) (λ (x : Open Operand). assign_codes x.1) (λ x y. after_open (sharp W asks settled) half_without y.1)) false
+    sharp_parts = parts_laws assigns row_half (refined_open W asks settled) no_assign no_equal halves
+
+    value_part : (x : Operand) (operator : Operator) (e : Expr) (k : Option Place) → T x → g.assigning.Fits operator → W.Fits (e, k) → (h : Option Place) × Part ((x, h), Some (operator, (e, k)))
+    value_part x operator e k target (inl known) value = let w = of_target x target in (None, (row_half.none_in x w.0, (w.1, (known, value))))
+    value_part x operator e k target (inr ((first, second), there, made)) value = let w = of_target x target in (Some first, (halves x first w.0 w.1, (w.1, ((second, tt, made), value))))
+
+    value_stays : (x : Operand) (h : Option Place) (operator : Operator) (e : Expr) → Part ((x, h), Some (operator, (e, None))) → asks e ≡ true → reads_half W e ≡ false → (place : Place) (ts : List Token) →
+        mapped an_expr raw_behind (open_spelling expr_tokens (t.assign x operator e, None) ++ sign_at place s.Greater ∷ ts) ≡ Ok ((t.assign x operator e, None), sign_at place s.Greater ∷ ts)
+    unfolding class_of
+    value_stays x h operator e known asked none place ts =
+        let p : Open Operand × Option Assigned = ((x, h), Some (operator, (e, None))) in
+        let rest : List Token = sign_at place s.Greater ∷ ts in
+        ap (λ (m : List Token). mapped an_expr raw_behind (m ++ rest)) (made_said ((x, h), Some (operator, (e, None))) known) ∙ same_reader (spelled p ++ rest)
+        ∙ ap (λ (r : Outcome Token (Open Operand × Option Assigned)). and_then r (λ y z. Ok (make y, z))) (sharp_parts.complete p rest known (sharp_stops W asks settled e asked none))
+
+    assign_settled : (x : Operand) (operator : Operator) (e : Expr) → T x → g.assigning.Fits operator → nodes.without.Fits e → asks e ≡ true → Settled assigned_laws (t.assign x operator e)
+    unfolding assigned_laws
+    assign_settled x operator e target known value asked = by_half (reads_half W e) refl where
+      by_half : (b : Bool) → reads_half W e ≡ b → Settled assigned_laws (t.assign x operator e)
+      by_half true is = inl (λ g. let p = value_part x operator e (Some g) target known (half_read W e (settled e value asked) is g) in (((x, p.0), Some (operator, (e, Some g))), p.1, refl))
+      by_half false is = inr (λ g ts. let p = value_part x operator e None target known (W.none_in e value) in value_stays x p.0 operator e p.1 asked is g ts)
+
+    pub value_settled : {E : Expr → Type 0} {efront : Front Token} (X : OpenLaws inner.expr expr_tokens E efront expr_first after_expr half_expr) (x : Operand) (operator : Operator) (e : Expr) → T x → g.assigning.Fits operator → nodes.without.Fits e → asks e ≡ true → Settled (without_laws X) (t.assign x operator e)
+    unfolding without_laws without_over opened
+    value_settled X x operator e target known value asked = second_settled (throw_laws inner X) assigned_laws (apart refl) (t.assign x operator e) (inl ((x, (operator, e)), (target, (known, value)), refl)) (assign_settled x operator e target known value asked)

@@ -84,7 +84,7 @@ pub record ExpressionsReadAt (n : ℕ) : Type 0 where
       (cascaded_over (within n).nodes.expr_nodes (within n).levels)
       operand_first after_cascaded false
 
--- ---- what is proved of them: the productions that end in no operand, from the expressions and arguments inside
+-- ---- the productions that end in no operand, from the expressions and arguments inside
 
 pub record InsideReadAt (n : ℕ) : Type 0 where
   pub expr : Reads (closed (stage n).nodes.exprs) (within n).nodes.expr_nodes.expr

@@ -27,7 +27,6 @@ use Rattle.dart_syntax.specs.Leaves as l
 use Rattle.dart_syntax.specs.Expressions as g
 use Rattle.dart_syntax.specs.Statements as p
 use Rattle.dart_syntax.specs.Statements.{within}
-use Rattle.dart_syntax.proofs.AgreeingStages.{within_agrees}
 use Rattle.token_codes.specs.Codes.{class_of, names, these, this_word}
 use Rattle.token_codes.specs.Leaves.{sign, word, identifier}
 use Rattle.token_codes.specs.Reads.{Reads}
@@ -38,7 +37,6 @@ use Rattle.syntax_readers.specs.Statements as i
 use Rattle.syntax_readers.specs.Statements.{jump_first}
 use Rattle.laws_expr.specs.Nexts.{after_expr}
 use Rattle.laws_expr.proofs.Behind.{behind_exprs, under_expr}
-use Rattle.laws_stmt.specs.Statements.{ExpressionRead, JumpsReadAt}
 
 -- ---- an expression or none
 
@@ -130,13 +128,3 @@ pub catch_laws : (nodes : p.StmtNodes) → Reads i.catch_over (p.catch_over node
 unfolding i.catch_over
 catch_laws nodes = made_laws (both_laws (word_reads w.Catch) (both_laws (sign_reads s.LeftParenthesis) (both_laws identifier_reads (both_any_laws (option_laws comma_name_reads) (sign_reads s.RightParenthesis) (λ x fits. trace_apart x))
     (λ name fits. apart_none behind_name)) (λ place fits. apart_none names)) (λ place fits. apart_none (these s.LeftParenthesis))) to_catch catch_tokens nowhere (λ x fits. refl) (λ x fits. within_self [])
-
--- ---- at each depth
-
-pub jumps_at : (n : ℕ) → ExpressionRead n → JumpsReadAt n
-unfolding i.stage within i.nodes_over p.nodes_over
-jumps_at n E = record {
-  jump = jump_laws (i.closed (i.stage n).nodes.exprs) (within n).nodes E (within_agrees n).nodes.expr_nodes.expr;
-  condition = condition_laws E (within_agrees n).nodes.expr_nodes.expr;
-  catch_clause = catch_laws (within n).nodes;
-}

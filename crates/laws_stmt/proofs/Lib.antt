@@ -1,1 +1,14 @@
+pub mod Before
+pub mod Bodies
+pub mod Declared
+pub mod Declaring
+pub mod Depths
+pub mod Expression
 pub mod Jumps
+pub mod Local
+pub mod Named
+pub mod Parameter
+pub mod Parameters
+pub mod Recursion
+pub mod Sorts
+pub mod Variables
