@@ -1,0 +1,4 @@
+// The names of the units of a program.
+#![tactic(auto)]
+
+pub mod table;

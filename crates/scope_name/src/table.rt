@@ -1,0 +1,179 @@
+// The table of the names of a program.
+ghost use Rattle.std.specs.Prelude.{◌≡◌, ◌++◌, [], IfOk, OnOk, fold, map, codes, decimal};
+ghost use Rattle.dart_tree.specs.UnitView as view;
+ghost use Rattle.scope_declared.specs.Number.{is_private, name_text};
+ghost use Rattle.scope_name.specs.Names.{given_names, names_of, with_text, with_token, with_unit, with_units};
+
+use dart_base::names::Names;
+use dart_token::token::{Token, TokenKind};
+use dart_tree::unit::Unit;
+use dart_unparse::tokens;
+use std::alloc::{AllocError, Global};
+use std::str::from_utf8;
+
+/// What a table of names has first, so that each of these has one number in all programs: the operators (ECMA-408, 10.1.1
+/// Operators), the built-in identifiers that may name something (16.33 Identifier Reference), what a class has that stands
+/// for an enum (13 Enums), and what is asked for by name.
+pub const GIVEN: [&str; 29] = [
+    "unary-",
+    "[]",
+    "[]=",
+    "==",
+    "<",
+    ">",
+    "<=",
+    ">=",
+    "-",
+    "+",
+    "/",
+    "~/",
+    "*",
+    "%",
+    "|",
+    "^",
+    "&",
+    "<<",
+    ">>",
+    "~",
+    "get",
+    "set",
+    "index",
+    "enum",
+    "toString",
+    "values",
+    "call",
+    "main",
+    "noSuchMethod",
+];
+
+// Gives the text a number. A table that has all the numbers there are is too large for memory.
+fn add_text(names: &mut Names, text: &[u8]) -> Result<(), AllocError>
+    ensures { OnOk result (names.new ≡ with_text names.old text.now) }
+{
+    let Ok(text) = from_utf8(text) else {
+        return Ok(());
+    };
+    if names.count() == u32::MAX {
+        return Err(AllocError);
+    }
+    names.intern(text)?;
+    Ok(())
+}
+
+fn is_private(text: &[u8]) -> bool
+    ensures { result ≡ is_private text.now }
+{
+    match text.first() {
+        None => false,
+        Some(first) => *first == b'_',
+    }
+}
+
+// What stands in the table for a private identifier.
+fn private_text(alloc: Global, library: u32, text: &[u8]) -> Result<Vec<u8>, AllocError>
+    ensures { IfOk result (λ made. made.items ≡ text.now ++ (codes "@" ++ decimal library)) }
+{
+    let suffix = format!(in alloc; "@{library}")?;
+    let mut made = Vec::from_slice(alloc, text)?;
+    made.extend_from_slice(suffix.as_bytes())?;
+    Ok(made)
+}
+
+// Gives an identifier of the library a number.
+fn add_identifier(
+    alloc: Global,
+    names: &mut Names,
+    library: u32,
+    text: &[u8],
+) -> Result<(), AllocError>
+    ensures { OnOk result (names.new ≡ with_text names.old (name_text library text.now)) }
+{
+    if is_private(text) {
+        let private = private_text(alloc, library, text)?;
+        add_text(names, &private)
+    } else {
+        add_text(names, text)
+    }
+}
+
+fn add_token(
+    alloc: Global,
+    names: &mut Names,
+    library: u32,
+    token: &Token,
+) -> Result<(), AllocError>
+    ensures { OnOk result (names.new ≡ with_token library names.old token.now) }
+{
+    match token.kind {
+        TokenKind::Identifier => add_identifier(alloc, names, library, token.lexeme.as_slice()),
+        TokenKind::Word(_)
+        | TokenKind::Integer
+        | TokenKind::Whole
+        | TokenKind::Head(_)
+        | TokenKind::Middle
+        | TokenKind::Tail
+        | TokenKind::Sign(_) => Ok(()),
+    }
+}
+
+// Gives the identifiers of a unit of the library numbers.
+#[tactic(auto, unfolding(crate::specs::Names::with_unit))]
+fn add_unit(alloc: Global, names: &mut Names, library: u32, unit: &Unit) -> Result<(), AllocError>
+    ensures { OnOk result (names.new ≡ with_unit library names.old (view.unit unit.now)) }
+{
+    let tokens = tokens(alloc, unit)?;
+    for token in &tokens {
+        add_token(alloc, names, library, token)?;
+    }
+    Ok(())
+}
+
+fn add_units(
+    alloc: Global,
+    names: &mut Names,
+    homes: &[u32],
+    units: &[Unit],
+) -> Result<(), AllocError>
+    ensures { OnOk result (names.new ≡ with_units names.old homes.now (map view.unit units.now)) }
+{
+    match homes {
+        [] => Ok(()),
+        [library, homes @ ..] => match units {
+            [] => Ok(()),
+            [unit, units @ ..] => {
+                add_unit(alloc, names, *library, unit)?;
+                add_units(alloc, names, homes, units)
+            }
+        },
+    }
+}
+
+fn add_texts(names: &mut Names, texts: &[&str]) -> Result<(), AllocError>
+    ensures { OnOk result (names.new ≡ fold with_text names.old (map (λ text. text.now) texts.now)) }
+{
+    for text in texts {
+        add_text(names, text.as_bytes())?;
+    }
+    Ok(())
+}
+
+// The table before any unit.
+#[tactic(auto, unfolding(crate::specs::Names::given_names))]
+fn given(alloc: Global) -> Result<Names, AllocError>
+    ensures { IfOk result (λ names. names ≡ given_names) }
+{
+    let mut names = Names::new(alloc);
+    add_texts(&mut names, &GIVEN)?;
+    Ok(names)
+}
+
+/// The names of a program with these units, each of which belongs to the library of the number beside it (ECMA-408, 6.2
+/// Privacy, 16.33 Identifier Reference): what every table has, and then the identifiers in the order of units and tokens. A
+/// private one has `@` and the library's number behind it. What stands in a string is no name here.
+pub fn names_of(alloc: Global, homes: &[u32], units: &[Unit]) -> Result<Names, AllocError>
+    ensures { IfOk result (λ names. names ≡ names_of homes.now (map view.unit units.now)) }
+{
+    let mut names = given(alloc)?;
+    add_units(alloc, &mut names, homes, units)?;
+    Ok(names)
+}

@@ -1,0 +1,4 @@
+pub mod Order
+pub mod Lookup
+pub mod Duplicate
+pub mod Instance
