@@ -1,0 +1,4 @@
+pub mod Pairs
+pub mod Meant
+pub mod Passing
+pub mod Few

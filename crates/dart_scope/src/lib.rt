@@ -1,0 +1,6 @@
+// What names mean in a program.
+#![tactic(auto)]
+
+pub mod making;
+pub mod meaning;
+pub mod program;
