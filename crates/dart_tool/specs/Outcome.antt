@@ -13,7 +13,7 @@ use Rattle.dart_tool.specs.declared.run.Ending.TheVariants.{Returned, IntegerLim
 use Rattle.dart_tool.specs.declared.status.Status.{Status}
 use Rattle.dart_tool.specs.declared.status.Status.TheVariants.{Done, Usage, Refused, Limit, ReadFault, WriteFault, Memory}
 use Rattle.dart_tool.specs.declared.status.Refusal.{Refusal}
-use Rattle.dart_tool.specs.declared.status.Refusal.TheVariants.{NotFound, NotUtf8, BadToken, LeftOut, IntegerTooLarge, Syntax, TooDeep, BadDirective, ProgramTooLarge, NotBuilt}
+use Rattle.dart_tool.specs.declared.status.Refusal.TheVariants.{NotFound, NotUtf8, BadToken, LeftOut, IntegerTooLarge, Syntax, TooDeep, BadDirective, ProgramTooLarge, Duplicate, NoMain, NotBuilt}
 use Rattle.dart_tool.specs.declared.words.Verb.{Verb}
 use Rattle.dart_tool.specs.declared.words.Verb.TheVariants as v
 use Rattle.dart_tool.specs.Language.{IsNoUnitFor, RefusedFor, Runs}
@@ -43,8 +43,8 @@ abbrev pub named_place : Place → List ℕ → List ℕ
 named_place place name =
     named name ++ byte ":" ∷ (decimal place.line ++ byte ":" ∷ decimal place.column)
 
--- what the line of a refusal says after the kind: the file, with the place where there is one, and then an offset or
--- a feature; nothing where the refusal is against the program
+-- what the line of a refusal says after the kind: the file, with the place where there is one, and then an offset, a feature
+-- or a name; nothing where the refusal is against the program
 abbrev pub refusal_details : Refusal → List ℕ → List ℕ
 refusal_details (NotUtf8 offset) name = named name ++ byte " " ∷ decimal offset
 refusal_details (BadToken place) name = named_place place name
@@ -53,7 +53,9 @@ refusal_details (IntegerTooLarge place) name = named_place place name
 refusal_details (Syntax place) name = named_place place name
 refusal_details (TooDeep place) name = named_place place name
 refusal_details (BadDirective place) name = named_place place name
+refusal_details (Duplicate place declared) name = named_place place name ++ byte " " ∷ declared
 refusal_details ProgramTooLarge name = []
+refusal_details NoMain name = []
 refusal_details why name = named name
 
 abbrev pub refused : Refusal → List ℕ → Outcome

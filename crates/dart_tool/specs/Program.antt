@@ -1,5 +1,5 @@
 -- Which reason there is against a program of several files (ECMA-408, 18 Libraries and Scripts).
-use Rattle.std.specs.Prelude.{◌≡◌, ℕ, List, [], codes, Bool, true, false, Option, Some, Result, Ok, Err, IfSome}
+use Rattle.std.specs.Prelude.{◌≡◌, ◌⊎◌, ℕ, List, [], codes, Bool, true, false, Option, Some, Result, Ok, Err, IfSome}
 use Rattle.dart_edge.specs.Files.{Files, file_of}
 use Rattle.scope_files.specs.Files.{NameGives}
 use Rattle.scope_load.specs.declared.reason.Reason.{Reason}
@@ -7,11 +7,15 @@ use Rattle.scope_load.specs.declared.reason.LoadFault.{LoadFault}
 use Rattle.scope_load.specs.declared.reason.LoadFault.TheVariants as l
 use Rattle.scope_load.specs.declared.units.UnitName.{UnitName}
 use Rattle.scope_load.specs.declared.units.UnitName.TheVariants as n
-use Rattle.scope_load.specs.Load.{Stops, load_failed}
+use Rattle.scope_load.specs.Load.{Loads, Stops, load_failed}
+use Rattle.scope_load.specs.State.{State}
+use Rattle.scope_reason.specs.declared.reason.ProgramReason.{ProgramReason}
+use Rattle.scope_reason.specs.declared.reason.ProgramReason.TheVariants as w
+use Rattle.scope_reason.specs.Reason.{program_reason}
 use Rattle.dart_tool.specs.declared.program.FileRefusal.{FileRefusal}
 use Rattle.dart_tool.specs.declared.program.RunStop.{RunStop}
 use Rattle.dart_tool.specs.declared.program.RunStop.TheVariants.{Refused, Failed, Memory}
-use Rattle.dart_tool.specs.declared.status.Refusal.TheVariants.{ProgramTooLarge}
+use Rattle.dart_tool.specs.declared.status.Refusal.TheVariants.{ProgramTooLarge, Duplicate, NoMain}
 use Rattle.dart_tool.specs.Status.{reason_refusal}
 
 -- the name by which a refusal calls a unit
@@ -30,10 +34,25 @@ load_stop l.TooLarge = Refused (record { file = []; why = ProgramTooLarge })
 load_stop l.Failed = Failed
 load_stop l.Memory = Memory
 
--- With these files, the program with this root is refused for this: it is the first reason that loading comes to.
-abbrev pub ProgramRefused : Files → List ℕ → FileRefusal → Type 0
-ProgramRefused files root against =
+-- the refusal of a program whose units are all loaded
+abbrev pub program_refusal : ProgramReason → FileRefusal
+program_refusal (w.Duplicate unit place name) = record { file = unit_file unit; why = Duplicate place name }
+program_refusal w.NoMain = record { file = []; why = NoMain }
+
+-- The units aren't loaded, since this is the first reason that loading comes to.
+abbrev pub LoadRefused : Files → List ℕ → FileRefusal → Type 0
+LoadRefused files root against =
     (fault : LoadFault) × Stops (NameGives (Some files)) root fault × (load_stop fault ≡ Refused against)
+
+-- All units are loaded, and this is the first reason against them as a whole.
+abbrev pub WholeRefused : Files → List ℕ → FileRefusal → Type 0
+WholeRefused files root against =
+    (state : State) × (reason : ProgramReason) × Loads (NameGives (Some files)) root state ×
+    (program_reason state ≡ Some reason) × (against ≡ program_refusal reason)
+
+-- With these files, the program with this root is refused for this: it is the first reason of all.
+abbrev pub ProgramRefused : Files → List ℕ → FileRefusal → Type 0
+ProgramRefused files root against = LoadRefused files root against ⊎ WholeRefused files root against
 
 -- a file could not be read
 abbrev pub stop_failed : RunStop → Bool

@@ -13,7 +13,7 @@ use Rattle.scope_load.specs.declared.units.TextReason.TheVariants as x
 use Rattle.dart_tool.specs.declared.status.Status.{Status}
 use Rattle.dart_tool.specs.declared.status.Status.TheVariants.{Done, Usage, Refused, Limit, ReadFault, WriteFault, Memory}
 use Rattle.dart_tool.specs.declared.status.Refusal.{Refusal}
-use Rattle.dart_tool.specs.declared.status.Refusal.TheVariants.{NotFound, NotUtf8, BadToken, LeftOut, IntegerTooLarge, Syntax, TooDeep, TooLarge, BadDirective, ProgramTooLarge, NotBuilt}
+use Rattle.dart_tool.specs.declared.status.Refusal.TheVariants.{NotFound, NotUtf8, BadToken, LeftOut, IntegerTooLarge, Syntax, TooDeep, TooLarge, BadDirective, ProgramTooLarge, Duplicate, NoMain, NotBuilt}
 
 -- the number with which the process ends
 abbrev pub status_number : Status → ℕ
@@ -37,6 +37,8 @@ refusal_text (Syntax place) = codes "Syntax"
 refusal_text (TooDeep place) = codes "TooDeep"
 refusal_text (BadDirective place) = codes "BadDirective"
 refusal_text ProgramTooLarge = codes "TooLarge"
+refusal_text (Duplicate place name) = codes "Duplicate"
+refusal_text NoMain = codes "NoMain"
 refusal_text NotBuilt = codes "NotBuilt"
 
 -- the refusal for a lexical reason; being out of memory is none

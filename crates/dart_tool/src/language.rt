@@ -19,7 +19,7 @@ use dart_front::fault::TextFault;
 use std::alloc::Global;
 
 /// Why a text isn't erased.
-#[derive(Clone, Copy, Debug, PartialEq, Eq)]
+#[derive(Drop)]
 pub enum Stop {
     /// It is refused for this reason.
     Refused(Refusal),

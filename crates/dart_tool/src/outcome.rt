@@ -63,29 +63,34 @@ fn push_place(alloc: Global, line: &mut Bytes, place: Place, name: &[u8]) -> Res
 fn push_details(
     alloc: Global,
     line: &mut Bytes,
-    why: Refusal,
+    why: &Refusal,
     name: &[u8],
 ) -> Result<(), AllocError>
-    ensures { IfOk result (λ _. line.new ≡ line.old ++ refusal_details why name.now) }
+    ensures { IfOk result (λ _. line.new ≡ line.old ++ refusal_details why.now name.now) }
 {
     match why {
         Refusal::NotUtf8(offset) => {
             push_named(line, name)?;
             line.push(b' ')?;
-            push_decimal(alloc, line, offset)
+            push_decimal(alloc, line, *offset)
         }
         Refusal::BadToken(place)
         | Refusal::IntegerTooLarge(place)
         | Refusal::Syntax(place)
         | Refusal::TooDeep(place)
-        | Refusal::BadDirective(place) => push_place(alloc, line, place, name),
+        | Refusal::BadDirective(place) => push_place(alloc, line, *place, name),
         Refusal::LeftOut(place, feature) => {
-            push_place(alloc, line, place, name)?;
+            push_place(alloc, line, *place, name)?;
             line.push(b' ')?;
             line.append(feature.text())
         }
+        Refusal::Duplicate(place, declared) => {
+            push_place(alloc, line, *place, name)?;
+            line.push(b' ')?;
+            line.append(declared.as_slice())
+        }
         Refusal::NotFound | Refusal::TooLarge | Refusal::NotBuilt => push_named(line, name),
-        Refusal::ProgramTooLarge => Ok(()),
+        Refusal::ProgramTooLarge | Refusal::NoMain => Ok(()),
     }
 }
 
@@ -95,7 +100,7 @@ pub fn refused(alloc: Global, why: Refusal, name: &[u8]) -> Result<Outcome, Allo
 {
     let mut bytes = Bytes::from_slice(alloc, b"** refused ")?;
     bytes.append(why.text())?;
-    push_details(alloc, &mut bytes, why, name)?;
+    push_details(alloc, &mut bytes, &why, name)?;
     bytes.push(b'\n')?;
     Ok(Outcome {
         status: Status::Refused,

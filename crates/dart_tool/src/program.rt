@@ -1,8 +1,9 @@
 // Whether a program of several files is refused.
-ghost use Rattle.std.specs.Prelude.{◌≡◌, ◌⊎◌, IfOk};
+ghost use Rattle.std.specs.Prelude.{◌≡◌, ◌⊎◌, IfOk, false};
 ghost use Rattle.dart_edge.specs.Fault.{Counts};
-ghost use Rattle.dart_tool.specs.declared.program.RunStop.TheVariants.{Memory};
-ghost use Rattle.dart_tool.specs.Program.{Judges, ProgramRefused, fault_failed, load_stop, run_failed, stop_failed, unit_file, unit_refusal};
+ghost use Rattle.dart_tool.specs.declared.program.RunStop.TheVariants.{Memory, Refused};
+ghost use Rattle.dart_tool.specs.Program.{Judges, ProgramRefused, fault_failed, load_stop, program_refusal, run_failed, stop_failed};
+ghost use Rattle.dart_tool.specs.Program.{unit_file, unit_refusal};
 
 use crate::status::Refusal;
 use dart_base::bytes::Bytes;
@@ -10,6 +11,7 @@ use dart_edge::source::Sources;
 use scope_files::check::check;
 use scope_load::reason::{LoadFault, Reason};
 use scope_load::units::UnitName;
+use scope_reason::reason::ProgramReason;
 use std::alloc::{AllocError, Global};
 
 /// A refusal, and the file that it is against.
@@ -60,6 +62,22 @@ fn unit_refusal(alloc: Global, name: UnitName, reason: Reason) -> Result<FileRef
     })
 }
 
+// The refusal of a program whose units are all loaded.
+fn program_refusal(alloc: Global, reason: ProgramReason) -> Result<FileRefusal, AllocError>
+    ensures { IfOk result (λ against. against ≡ program_refusal reason) }
+{
+    match reason {
+        ProgramReason::Duplicate(unit, place, name) => Ok(FileRefusal {
+            file: unit_file(alloc, unit)?,
+            why: Refusal::Duplicate(place, name),
+        }),
+        ProgramReason::NoMain => Ok(FileRefusal {
+            file: Bytes::new(alloc),
+            why: Refusal::NoMain,
+        }),
+    }
+}
+
 // What a fault of loading stops; memory can run out over the name of a unit.
 fn stop_of(alloc: Global, fault: LoadFault) -> RunStop
     ensures stop { (result ≡ load_stop fault) ⊎ (result ≡ Memory) }
@@ -79,8 +97,19 @@ fn stop_of(alloc: Global, fault: LoadFault) -> RunStop
     }
 }
 
-/// Whether the program with this root, which has this text, is refused: its units are read in order of first mention
-/// (ECMA-408, 18 Libraries and Scripts).
+// What a reason against all units together stops; memory can run out over the name of one.
+fn whole_stop(alloc: Global, reason: ProgramReason) -> RunStop
+    ensures stop { (result ≡ Refused (program_refusal reason)) ⊎ (result ≡ Memory) }
+    ensures failed { stop_failed result ≡ false }
+{
+    match program_refusal(alloc, reason) {
+        Ok(against) => RunStop::Refused(against),
+        Err(_) => RunStop::Memory,
+    }
+}
+
+/// Whether the program with this root, which has this text, is refused: its units are read in order of first mention, and
+/// then what they declare is looked at as a whole (ECMA-408, 6.1 Scoping, 18 Libraries and Scripts).
 pub fn check_program<S: Sources>(
     alloc: Global,
     name: &str,
@@ -92,7 +121,8 @@ pub fn check_program<S: Sources>(
     ensures cause { Counts (run_failed result) (S.faults sources.old) (S.faults sources.new) }
 {
     match check(alloc, name.as_bytes(), text, sources) {
-        Ok(()) => Ok(()),
+        Ok(None) => Ok(()),
+        Ok(Some(reason)) => Err(whole_stop(alloc, reason)),
         Err(fault) => Err(stop_of(alloc, fault)),
     }
 }

@@ -2,6 +2,7 @@
 ghost use Rattle.std.specs.Prelude.{◌≡◌};
 ghost use Rattle.dart_tool.specs.Status.{status_number, refusal_text, lexical_refusal, syntax_refusal, text_refusal, text_reason_refusal, reason_refusal};
 
+use dart_base::bytes::Bytes;
 use dart_base::feature::Feature;
 use dart_base::place::Place;
 use dart_front::fault::TextFault;
@@ -46,8 +47,8 @@ impl Status {
     }
 }
 
-/// Why a file is refused. Another one is also a line of `refusal_text` in specs/Status.antt.
-#[derive(Clone, Copy, Debug, PartialEq, Eq)]
+/// Why a file or a program is refused. Another one is also a line of `refusal_text` in specs/Status.antt.
+#[derive(Drop)]
 pub enum Refusal {
     /// There is no such file.
     NotFound,
@@ -69,6 +70,10 @@ pub enum Refusal {
     BadDirective(Place),
     /// The program has too many files, or they have too much weight.
     ProgramTooLarge,
+    /// The second declaration of this name in one scope stands here.
+    Duplicate(Place, Bytes),
+    /// There is no function to begin with.
+    NoMain,
     /// The file is no program of the subset that is built so far.
     NotBuilt,
 }
@@ -139,8 +144,8 @@ impl Refusal {
     }
 
     /// The kind as the line of a refusal shows it.
-    pub fn text(self) -> &'static [u8]
-        ensures { result.now ≡ refusal_text self }
+    pub fn text(&self) -> &'static [u8]
+        ensures { result.now ≡ refusal_text self.now }
     {
         match self {
             Refusal::NotFound => b"NotFound",
@@ -152,6 +157,8 @@ impl Refusal {
             Refusal::Syntax(_) => b"Syntax",
             Refusal::TooDeep(_) => b"TooDeep",
             Refusal::BadDirective(_) => b"BadDirective",
+            Refusal::Duplicate(_, _) => b"Duplicate",
+            Refusal::NoMain => b"NoMain",
             Refusal::NotBuilt => b"NotBuilt",
         }
     }

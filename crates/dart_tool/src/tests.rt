@@ -222,7 +222,7 @@ fn sizes(rt: HostRuntime) -> Result<(), AllocError> {
     let words = words(alloc, &["run", "a.dart"])?;
     for (length, byte, want) in [
         (UNIT_LINES + 1, b'\n', "** refused TooLarge a.dart\n"),
-        (UNIT_LINES, b'\n', NOT_BUILT),
+        (UNIT_LINES, b'\n', "** refused NoMain\n"),
         (UNIT_WEIGHT + 1, b'a', "** refused TooLarge a.dart\n"),
     ] {
         let mut text = Vec::new(alloc);

@@ -11,6 +11,8 @@ use Rattle.scope_load.specs.declared.units.UnitName.TheVariants as n
 use Rattle.scope_load.specs.Found.{FoundIs, absent, refused, read}
 use Rattle.scope_load.specs.Load.{Loads, Stops}
 use Rattle.scope_load.specs.State.{State}
+use Rattle.scope_reason.specs.declared.reason.ProgramReason.{ProgramReason}
+use Rattle.scope_reason.specs.Reason.{program_reason}
 
 -- what the bytes of a file give, or its absence
 abbrev pub ContentGives : ℕ → Option (List ℕ) → FoundIs → Type 0
@@ -36,7 +38,8 @@ GivesText number name text gives = ((IsUtf8 name → ⊥) × (gives ≡ absent))
 abbrev pub known : List ℕ → List ℕ → Option Files → Option Files
 known name text told = option_map (λ files. (name, text) ∷ files) told
 
--- What an answer says of the program with this root: all its units are loaded, or there is no program for this reason.
-abbrev pub Checks : Option Files → List ℕ → Result (Unit {0}) LoadFault → Type 0
-Checks told root (Ok done) = (state : State) × Loads (NameGives told) root state
+-- What an answer says of the program with this root: all its units are loaded, and this is the first reason against them as a
+-- whole, or there is none; or they aren't loaded for this reason.
+abbrev pub Checks : Option Files → List ℕ → Result (Option ProgramReason) LoadFault → Type 0
+Checks told root (Ok reason) = (state : State) × Loads (NameGives told) root state × (reason ≡ program_reason state)
 Checks told root (Err fault) = Stops (NameGives told) root fault

@@ -1,4 +1,6 @@
 // Programs over files in memory.
+mod whole;
+
 use crate::check::check;
 use crate::reader::FileReader;
 use dart_base::bytes::Bytes;
@@ -113,8 +115,13 @@ fn failing_reads(rt: HostRuntime) -> Result<(), Fail> {
 fn text_at_hand(rt: HostRuntime) -> Result<(), Fail> {
     let alloc = rt.alloc();
     let mut sources = NoFaultSources::new(alloc, pairs(alloc, &[("b.dart", "var x;")])?);
-    match check(alloc, b"a.dart", b"import 'b.dart';", &mut sources) {
-        Ok(()) => Ok(()),
-        Err(_) => Err(Fail::from("refused")),
+    match check(
+        alloc,
+        b"a.dart",
+        b"import 'b.dart'; main() {}",
+        &mut sources,
+    ) {
+        Ok(None) => Ok(()),
+        Ok(Some(_)) | Err(_) => Err(Fail::from("refused")),
     }
 }

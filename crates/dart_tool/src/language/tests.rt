@@ -1,32 +1,30 @@
 // Texts that have a lexical reason.
 use super::{Stop, erase_text};
-use crate::status::Refusal;
-use dart_base::feature::Feature;
-use dart_base::place::Place;
+use crate::outcome::refused;
 use std::test::Fail;
 
 #[test]
 fn reasons(rt: HostRuntime) -> Result<(), Fail> {
-    let place = Place {
-        unit: 0,
-        line: 1,
-        column: 16,
-    };
-    for (text, want) in [
-        ("main() { print('a); }", Refusal::BadToken(place)),
-        ("main() { print('$'); }", Refusal::BadToken(place)),
+    let alloc = rt.alloc();
+    let cases: [(&str, &[u8]); 4] = [
+        ("main() { print('a); }", b"** refused BadToken a:1:16\n"),
+        ("main() { print('$'); }", b"** refused BadToken a:1:16\n"),
         (
             "main() { print(170141183460469231731687303715884105728); }",
-            Refusal::IntegerTooLarge(place),
+            b"** refused IntegerTooLarge a:1:16\n",
         ),
         (
             "main() { print(1.5); }",
-            Refusal::LeftOut(place, Feature::Doubles),
+            b"** refused LeftOut a:1:16 Doubles\n",
         ),
-    ] {
-        match erase_text(rt.alloc(), text.as_bytes()) {
-            Ok(_) => return Err(Fail::from("no reason")),
-            Err(reason) => assert_eq!(rt; reason, Stop::Refused(want), "{text}"),
+    ];
+    for (text, want) in cases {
+        match erase_text(alloc, text.as_bytes()) {
+            Ok(_) | Err(Stop::Memory) => return Err(Fail::from("no reason")),
+            Err(Stop::Refused(why)) => {
+                let line = refused(alloc, why, b"a")?;
+                assert_eq!(rt; line.bytes.as_slice(), want, "{text}");
+            }
         }
     }
     Ok(())

@@ -50,7 +50,10 @@ pub fn reading_of(alloc: Global, text: &[u8]) -> Result<Reading, AllocError>
     match lex(alloc, 0, text) {
         Ok(tokens) => source_of(alloc, text, &tokens),
         Err(fault) => match Refusal::of_lexis(fault) {
-            Some(_) => Ok(Reading::Unspelled),
+            Some(why) => {
+                drop(why);
+                Ok(Reading::Unspelled)
+            }
             None => Err(AllocError),
         },
     }

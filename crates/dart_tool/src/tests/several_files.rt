@@ -106,8 +106,39 @@ fn reasons_of_a_second_file(rt: HostRuntime) -> Result<(), AllocError> {
             "var ;",
             "** refused Syntax a.dart:1:5\n",
         ),
-        ("library l; part 'b.dart';", "part of l; var x;", NOT_BUILT),
-        ("import 'b.dart';", "import 'a.dart';", NOT_BUILT),
+        (
+            "library l; part 'b.dart'; main() {}",
+            "part of l; var x;",
+            NOT_BUILT,
+        ),
+        ("import 'b.dart'; main() {}", "import 'a.dart';", NOT_BUILT),
+    ] {
+        refuses(&rt, alloc, &[("a.dart", root), ("b.dart", second)], want)?;
+    }
+    Ok(())
+}
+
+// What is against no file alone comes last.
+#[test]
+fn reasons_of_a_program(rt: HostRuntime) -> Result<(), AllocError> {
+    let alloc = rt.alloc();
+    for (root, second, want) in [
+        (
+            "library l; part 'b.dart'; var _x;",
+            "part of l;\n get _x => 1;",
+            "** refused Duplicate b.dart:2:6 _x\n",
+        ),
+        (
+            "import 'b.dart'; a() {} var a;",
+            "main() {}",
+            "** refused Duplicate a.dart:1:29 a\n",
+        ),
+        ("import 'b.dart';", "main() {}", "** refused NoMain\n"),
+        (
+            "import 'b.dart'; var a, a;",
+            "import 'dart:io';",
+            "** refused LeftOut b.dart:1:8 Libraries\n",
+        ),
     ] {
         refuses(&rt, alloc, &[("a.dart", root), ("b.dart", second)], want)?;
     }
@@ -120,7 +151,7 @@ fn failing_reads(rt: HostRuntime) -> Result<(), AllocError> {
     let alloc = rt.alloc();
     let words = words(alloc, &["run", "a.dart"])?;
     let files: &[File] = &[
-        ("a.dart", "import 'b.dart'; import 'c.dart' as c;"),
+        ("a.dart", "import 'b.dart'; import 'c.dart' as c; main() {}"),
         ("b.dart", "import 'a.dart'; export 'd.dart';"),
         ("c.dart", "library c; import 'b.dart'; part 'e.dart';"),
         ("d.dart", "import 'dart:isolate'; import 'd.dart';"),

@@ -1,17 +1,30 @@
-use Rattle.std.proofs.Common.{Option}
+use Rattle.std.proofs.Common.{Option, Some, None, subst}
 use Rattle.dart_edge.specs.Files.{Files}
 use Rattle.scope_files.specs.Files.{NameGives, known}
-use Rattle.scope_load.specs.Load.{Loads, Stops}
-use Rattle.scope_load.specs.State.{State}
-use Rattle.dart_tool.proofs.ProgramLaws.{told_loaded, told_stop}
+use Rattle.scope_load.specs.Load.{Stops}
+use Rattle.scope_reason.specs.declared.reason.ProgramReason.{ProgramReason}
+use Rattle.dart_tool.proofs.ProgramLaws.{LoadedWith, told_loaded, told_whole_stop, told_stop}
 use Rattle.dart_tool.proofs.program.check_program.Goals as goal
 
-pub returns-in-Ok-clause-answer : goal.returns-in-Ok-clause-answer
-returns-in-Ok-clause-answer g c =
+pub returns-in-Ok-None-clause-answer : goal.returns-in-Ok-None-clause-answer
+returns-in-Ok-None-clause-answer g c =
     let told : Option Files = g.S.Sources.files c.args.sources.now in
+    let name = c.args.name.now in
     let text = c.args.text.now in
-    let loaded : (state : State) × Loads (NameGives (known c.args.name.now text told)) c.args.name.now state = rw c.as_bytes.ensures.value at c.in-Ok.ensures.answer in
-    told_loaded told c.args.name.now text loaded
+    let loaded : LoadedWith told name text c.in-Ok-None.field-0 = rw c.as_bytes.ensures.value at c.in-Ok-None.ensures.answer in
+    told_loaded told name text (subst (λ (o : Option ProgramReason). LoadedWith told name text o) c.in-Ok-None.field-0-is loaded)
+
+pub returns-in-Ok-Some-clause-answer : goal.returns-in-Ok-Some-clause-answer
+returns-in-Ok-Some-clause-answer g c =
+    let told : Option Files = g.S.Sources.files c.args.sources.now in
+    let name = c.args.name.now in
+    let text = c.args.text.now in
+    let loaded : LoadedWith told name text c.in-Ok-Some.field-0 = rw c.as_bytes.ensures.value at c.in-Ok-Some.ensures.answer in
+    let with_reason : LoadedWith told name text (Some c.in-Ok-Some.reason) = subst (λ (o : Option ProgramReason). LoadedWith told name text o) c.in-Ok-Some.field-0-is loaded in
+    told_whole_stop (Unit {0}) told name text c.in-Ok-Some.reason c.whole_stop.result c.whole_stop.ensures.stop with_reason
+
+pub returns-in-Ok-Some-clause-cause : goal.returns-in-Ok-Some-clause-cause
+returns-in-Ok-Some-clause-cause g c = rw c.whole_stop.ensures.failed c.in-Ok-Some.ensures.cause
 
 pub returns-in-Err-clause-answer : goal.returns-in-Err-clause-answer
 returns-in-Err-clause-answer g c =

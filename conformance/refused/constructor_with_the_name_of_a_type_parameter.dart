@@ -1,0 +1,7 @@
+class A<A> {
+  var x;
+  A(this.x);
+  A.x();
+}
+
+main() {}

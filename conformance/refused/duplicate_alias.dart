@@ -1,0 +1,5 @@
+typedef F();
+
+class F {}
+
+main() {}

@@ -1,0 +1,2 @@
+var a;
+var a;

@@ -1,0 +1,6 @@
+class A {
+  var x;
+  get x => 1;
+}
+
+main() {}

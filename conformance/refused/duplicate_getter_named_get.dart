@@ -1,0 +1,4 @@
+get get => 1;
+var get;
+
+main() {}

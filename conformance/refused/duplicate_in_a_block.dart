@@ -1,0 +1,7 @@
+main() {
+  var a;
+  {
+    var a;
+    var a;
+  }
+}

@@ -1,0 +1,7 @@
+main() {
+  switch (1) {
+    case 1:
+      var a;
+      var a;
+  }
+}

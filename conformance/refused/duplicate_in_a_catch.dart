@@ -1,0 +1,5 @@
+main() {
+  try {
+  } catch (e, e) {
+  }
+}

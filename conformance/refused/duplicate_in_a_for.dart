@@ -1,0 +1,3 @@
+main() {
+  for (var i = 0, i = 1; i < 2; i++) print(i);
+}

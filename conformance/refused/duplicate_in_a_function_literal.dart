@@ -1,0 +1,6 @@
+main() {
+  var f = (x) {
+    var y;
+    var y;
+  };
+}

@@ -1,0 +1,6 @@
+library l;
+part 'p.dart';
+
+var x;
+
+main() {}

@@ -1,0 +1,3 @@
+part of l;
+
+get x => 1;

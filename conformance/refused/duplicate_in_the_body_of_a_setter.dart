@@ -1,0 +1,8 @@
+class A {
+  set a(v) {
+    var b;
+    var b;
+  }
+}
+
+main() {}

@@ -1,0 +1,6 @@
+import 'b.dart';
+
+var a;
+var a;
+
+main() {}

@@ -1,0 +1,6 @@
+class A {
+  var x;
+  A(this.x, x);
+}
+
+main() {}

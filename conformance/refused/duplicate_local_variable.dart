@@ -1,0 +1,5 @@
+main() {
+  var a;
+  print(a);
+  var a;
+}

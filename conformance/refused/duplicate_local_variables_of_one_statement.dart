@@ -1,0 +1,1 @@
+main() { var a, a; }

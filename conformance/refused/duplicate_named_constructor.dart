@@ -1,0 +1,7 @@
+class A {
+  A();
+  A.b();
+  factory A.b() => new A();
+}
+
+main() {}

@@ -1,0 +1,6 @@
+class A {
+  _m() {}
+  static var _m;
+}
+
+main() {}

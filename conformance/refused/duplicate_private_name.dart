@@ -1,0 +1,4 @@
+var _a;
+var _a;
+
+main() {}

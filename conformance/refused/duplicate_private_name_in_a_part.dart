@@ -1,0 +1,5 @@
+library l;
+part 'p.dart';
+part 'q.dart';
+
+main() {}

@@ -1,0 +1,3 @@
+part of l;
+
+class _f {}

@@ -1,0 +1,6 @@
+class A {
+  static m() {}
+  m() {}
+}
+
+main() {}

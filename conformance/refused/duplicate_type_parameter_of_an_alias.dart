@@ -1,0 +1,3 @@
+typedef F<T, T>();
+
+main() {}

@@ -1,0 +1,7 @@
+class A {
+  operator -(x) => 1;
+  operator -() => 2;
+  operator -() => 3;
+}
+
+main() {}

@@ -1,0 +1,4 @@
+var a;
+set a(v) {}
+
+main() {}

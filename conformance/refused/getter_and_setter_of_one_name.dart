@@ -1,0 +1,6 @@
+get a => 1;
+set a(v) {}
+final b = 1;
+set b(v) {}
+
+main() {}

@@ -1,0 +1,2 @@
+library l;
+part 'p.dart';

@@ -1,0 +1,8 @@
+var a;
+
+f(a) {
+  var a;
+  { var a; }
+}
+
+main() {}

@@ -1,0 +1,6 @@
+typedef F(a, a);
+
+f(g(a, a)) {}
+
+@f(1)
+main() {}

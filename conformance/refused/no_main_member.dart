@@ -1,0 +1,4 @@
+class A {
+  main() {}
+  static f() {}
+}

@@ -1,0 +1,1 @@
+set main(a) {}
