@@ -8,10 +8,7 @@ pub mod Expressions
 pub mod Statements
 pub mod Functions
 pub mod Productions
-pub mod LinedLeaf
-pub mod Lined
 pub mod Declarations
-pub mod LinedUnit
 pub mod Classes
 pub mod ClassBodies
 pub mod Applications

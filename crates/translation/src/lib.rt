@@ -1,5 +1,4 @@
-// What the core of a program is, and that it does not depend on annotations or columns.
+// What the core of a program is.
 #![tactic(auto)]
 
 pub mod fact;
-pub mod law;

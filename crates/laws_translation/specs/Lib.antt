@@ -1,0 +1,4 @@
+pub mod LinedLeaf
+pub mod Lined
+pub mod LinedUnit
+pub mod Bare

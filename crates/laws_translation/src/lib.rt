@@ -1,0 +1,4 @@
+// That the core of a program does not depend on annotations or columns.
+#![tactic(auto)]
+
+pub mod law;

@@ -1,5 +1,0 @@
-use Rattle.translation.proofs.Whole.{bare_core}
-use Rattle.translation.proofs.law.bare_core.Goals as goal
-
-pub returns : goal.returns
-returns c = bare_core

@@ -1,5 +1,0 @@
-use Rattle.translation.proofs.Again.{read_again}
-use Rattle.translation.proofs.law.core_of_erased.Goals as goal
-
-pub returns : goal.returns
-returns c = read_again

@@ -1,5 +1,0 @@
-use Rattle.translation.proofs.Whole.{erased_core}
-use Rattle.translation.proofs.law.erased_core.Goals as goal
-
-pub returns : goal.returns
-returns c = erased_core
