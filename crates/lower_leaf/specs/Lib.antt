@@ -1,0 +1,6 @@
+pub mod Around
+pub mod Forms
+pub mod Seen
+pub mod Gives
+pub mod Kept
+pub mod Nests
