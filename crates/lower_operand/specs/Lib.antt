@@ -1,0 +1,3 @@
+pub mod Operators
+pub mod Made
+pub mod Held
