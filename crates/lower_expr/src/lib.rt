@@ -1,0 +1,9 @@
+// The core of expressions.
+#![tactic(auto, using(crate::proofs::Rest::steps, crate::proofs::Trees::trees), unfolding(translation::specs::Walk::on))]
+
+pub mod assign;
+pub mod list;
+pub mod lower;
+pub mod object;
+pub mod row;
+pub mod text;
