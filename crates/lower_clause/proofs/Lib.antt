@@ -1,0 +1,6 @@
+pub mod Rest
+pub mod Trees
+pub mod Joined
+pub mod Formed
+pub mod Cased
+pub mod FirstKind

@@ -1,0 +1,7 @@
+-- Lists that grow or shrink.
+use Rattle.std.proofs.Common.{append_assoc}
+use Rattle.std.proofs.lemmas.List.{map-append, length-map, take-map}
+
+pub ruleset steps = (map-append, length-map, take-map)
+
+pub ruleset list_steps = (map-append, append_assoc)

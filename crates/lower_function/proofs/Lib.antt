@@ -1,0 +1,13 @@
+pub mod Steps
+pub mod Trees
+pub mod Used
+pub mod Walked
+pub mod Sharing
+pub mod Picked
+pub mod Copied
+pub mod Binding
+pub mod Listed
+pub mod Made
+pub mod Negative
+pub mod Cascaded
+pub mod Alike

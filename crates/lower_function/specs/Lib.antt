@@ -1,0 +1,4 @@
+pub mod Literals
+pub mod Uses
+pub mod Formals
+pub mod Made
