@@ -7,5 +7,3 @@ pub mod form;
 pub mod program;
 pub mod strip;
 pub mod tables;
-#[cfg(test)]
-mod tests;

@@ -1,9 +1,9 @@
 // Small programs, by hand.
 
-use crate::captured::captured;
-use crate::form::{Attempt, Core, Form, Handler, Leaf, Part, Test, Unary};
-use crate::program::{CoreProgram, Function, FunctionKind, Parameter, Site};
-use crate::strip::strip;
+use core_program::captured::captured;
+use core_program::form::{Attempt, Core, Form, Handler, Leaf, Part, Test, Unary};
+use core_program::program::{CoreProgram, Function, FunctionKind, Parameter, Site};
+use core_program::strip::strip;
 use dart_base::name::Name;
 use dart_base::names::Names;
 use dart_base::place::Place;
@@ -157,35 +157,64 @@ fn nested(alloc: Global) -> Result<CoreProgram, AllocError> {
     program(alloc, functions)
 }
 
+// A function, a variable, whether a function inside names it, and which it is.
+const VARIABLES: [(u32, u32, bool, &str); 7] = [
+    (0, 0, true, "the parameter"),
+    (0, 2, true, "what a handler caught"),
+    (0, 1, false, "named nowhere"),
+    (0, 3, false, "a local function that is not called"),
+    (1, 0, false, "declared outside"),
+    (1, 4, false, "named by no function inside"),
+    (9, 0, false, "no function"),
+];
+
+// The calls that are tested, in functions that say nothing of their answers, so tests are cheap to prove.
+
+fn is_captured(p: &CoreProgram, function: u32, variable: u32) -> bool {
+    captured(p, DeclId(function), variable)
+}
+
+fn stripped(alloc: Global, p: &CoreProgram) -> Result<CoreProgram, AllocError> {
+    strip(alloc, p)
+}
+
 #[test]
 fn variables_named_inside(rt: HostRuntime) -> Result<(), Fail> {
     let p = nested(rt.alloc())?;
-    assert!(rt; captured(&p, DeclId(0), 0), "the parameter");
-    assert!(rt; captured(&p, DeclId(0), 2), "what a handler caught");
-    assert!(rt; !captured(&p, DeclId(0), 1), "named nowhere");
-    assert!(rt;
-        !captured(&p, DeclId(0), 3),
-        "a local function that is not called"
-    );
-    assert!(rt; !captured(&p, DeclId(1), 0), "declared outside");
-    assert!(rt; !captured(&p, DeclId(1), 4), "named by no function inside");
-    assert!(rt; !captured(&p, DeclId(9), 0), "no function");
+    for (function, variable, wanted, which) in VARIABLES {
+        assert_eq!(rt; is_captured(&p, function, variable), wanted, "{which}");
+    }
     Ok(())
+}
+
+// Whether each site asks for a type, and has an annotation.
+const SITES: [(bool, bool); 3] = [(false, true), (true, false), (false, false)];
+
+fn has_sites(p: &CoreProgram, wanted: &[(bool, bool)]) -> bool {
+    p.sites.len() == wanted.len()
+        && p.sites.iter().zip(wanted).all(|(site, (asks, annotated))| {
+            site.required.is_some() == *asks && site.annotated == *annotated
+        })
+}
+
+// Whether the first function's signature asks for nothing.
+fn is_first_loose(p: &CoreProgram) -> bool {
+    match p.functions.first() {
+        Some(function) => is_loose(&function.signature),
+        None => false,
+    }
 }
 
 #[test]
 fn annotations_ask_for_nothing(rt: HostRuntime) -> Result<(), Fail> {
     let p = nested(rt.alloc())?;
-    let made = strip(rt.alloc(), &p)?;
+    let made = stripped(rt.alloc(), &p)?;
     assert_eq!(rt; made.names.count(), 1);
-    assert_eq!(rt; made.sites.len(), 3);
-    assert!(rt; made.sites[0].required.is_none() && made.sites[0].annotated);
-    assert!(rt; made.sites[1].required.is_some() && !made.sites[1].annotated);
-    assert!(rt; made.sites[2].required.is_none());
+    assert!(rt; has_sites(&made, &SITES));
     assert_eq!(rt; made.functions.len(), 3);
-    assert!(rt; is_loose(&made.functions[0].signature));
-    assert!(rt; !is_loose(&p.functions[0].signature));
-    assert!(rt; captured(&made, DeclId(0), 2));
+    assert!(rt; is_first_loose(&made));
+    assert!(rt; !is_first_loose(&p));
+    assert!(rt; is_captured(&made, 0, 2));
     Ok(())
 }
 
