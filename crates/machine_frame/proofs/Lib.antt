@@ -1,0 +1,12 @@
+pub mod KindOf
+pub mod Rows
+pub mod Resume
+pub mod Cells
+pub mod Added
+pub mod Passing
+pub mod Steps
+pub mod Turns
+pub mod Labels
+pub mod Quick
+pub mod Natives
+pub mod Mute

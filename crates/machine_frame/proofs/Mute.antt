@@ -1,0 +1,223 @@
+-- The events before a frame make no difference to the rest.
+use Rattle.std.proofs.Common.{◌≡◌, ℕ, List, [], ◌∷◌, ◌++◌, refl, sym, ap, ◌∙◌, suc, map, take, drop, reverse, Bool, true, false, Option, Some, None}
+use Rattle.dart_base.specs.declared.place.Place.{Place}
+use Rattle.dart_ir.specs.declared.value.Value.{Value}
+use Rattle.dart_ir.specs.declared.value.Value.TheVariants.{Null, Bool as Truth}
+use Rattle.dart_ir.specs.Object.{HeadTy}
+use Rattle.dart_ir.specs.Ty.{Ty, ty}
+use Rattle.core_program.specs.Core as c
+use Rattle.core_program.specs.View as v
+use Rattle.core_program.specs.Program.{Parameter}
+use Rattle.core_program.specs.declared.form.Core.{Core}
+use Rattle.core_program.specs.declared.form.Handler.{Handler}
+use Rattle.core_program.specs.declared.form.Form.TheViews.{out-Attempt}
+use Rattle.evaluation.specs.State.{State, now, Event, tested, with_event, Completion, answer, returns, ended, Outcome, ends, Meaning, Reaction, Given, Callee, Setting}
+use Rattle.evaluation.specs.Sequence.{on_answer, is_true}
+use Rattle.evaluation.specs.Values.{head_of, arguments_here}
+use Rattle.evaluation.specs.Evaluation.{eval, evals, part, clauses, nested, site, binary, binding, returned}
+use Rattle.evaluation.specs.Invocation.{leaving}
+use Rattle.evaluation.specs.Statements as s
+use Rattle.evaluation.specs.Variables.{declare, settled}
+use Rattle.evaluation.specs.Checks.{passes, judged, lets_pass, reaction}
+use Rattle.evaluation.proofs.Logic as l
+use Rattle.evaluation.proofs.Chapters as p
+use Rattle.evaluation.proofs.Calls as calls
+use Rattle.evaluation.proofs.Forms as forms
+use Rattle.evaluation.proofs.Kept.{Kept, Keeps, kept_then, kept_logic, kept_ends, kept_site, front, before}
+use Rattle.machine_frame.specs.declared.around.Around.{Around}
+use Rattle.machine_frame.specs.declared.run.Turn.{Turn}
+use Rattle.machine_frame.specs.declared.run.Task.{Task}
+use Rattle.machine_frame.specs.declared.run.Task.TheVariants as task
+use Rattle.machine_frame.specs.declared.run.Frame.{Frame}
+use Rattle.machine_frame.specs.declared.run.Frame.TheVariants as f
+use Rattle.machine_frame.specs.Outside.{checking_of, setting_of, world_in}
+use Rattle.machine_lookup.specs.Rows.{last_of}
+use Rattle.machine_frame.specs.Labels.{labels, labelled_all}
+use Rattle.machine_frame.specs.Frames.{Below, below, forms_of, loop_of, next_turn, tested as tested_by, updated, done, joins, completed, thrown_of, given_of, activation_of, resumed, resume_from, resume, mute}
+
+mute_front : (e : Event) (o : Outcome) → mute (front e o) ≡ mute o
+mute_front e (ends c st) = refl
+
+-- events before it make no difference to what a kept meaning does
+den_mute_from : (d : Meaning) → Kept d → (es : List Event) (st : State) → st.events ≡ [] → mute (d (record st { events = es })) ≡ mute (d st)
+den_mute_from d k [] st e = ap (λ es. mute (d (record st { events = es }))) (sym e)
+den_mute_from d k (x ∷ es) st e =
+    ap mute (k.moves x (record st { events = es })) ∙ mute_front x (d (record st { events = es })) ∙ den_mute_from d k es st e
+
+den_mute : (d : Meaning) → Kept d → (st : State) → mute (d st) ≡ mute (d (record st { events = [] }))
+den_mute d k st = den_mute_from d k st.events (record st { events = [] }) refl
+
+keeps_mute : (g : Outcome → Outcome) → Keeps g → (o : Outcome) → mute (g o) ≡ mute (g (mute o))
+keeps_mute g k (ends c st) = den_mute (λ st. g (ends c st)) (k c) st
+
+module _ (a : Around) (d : ℕ) where
+  abbrev S : Setting
+  S = setting_of a
+
+  abbrev R : Reaction
+  R = reaction (checking_of a) S lets_pass
+
+  abbrev C : ℕ → Callee → Given → Meaning
+  C = (nested S R d).calls
+
+  abbrev I : ℕ → Meaning
+  I = (nested S R d).inits
+
+  sites : (n : ℕ) (head : HeadTy) (args : List Ty) (u : Value) → Kept (λ st. R n head args u (with_event st (tested n head args)))
+  sites = kept_site (checking_of a) S lets_pass
+
+  kept_calls : (x : ℕ) (callee : Callee) (g : Given) → Kept (C x callee g)
+  kept_calls = forms.calls_rel kept_logic S R R sites d
+
+  kept_inits : (x : ℕ) → Kept (I x)
+  kept_inits = forms.inits_rel kept_logic S R R sites d
+
+  form_kept : (x : c.Core ℕ) → Kept (eval x (world_in a d))
+  form_kept x = forms.eval_rel kept_logic S R R C C I I sites kept_calls kept_inits x
+
+  part_kept : (x : c.Part ℕ) (u : Value) → Kept (part x (world_in a d) u)
+  part_kept x u = forms.part_rel kept_logic S R R C C I I sites kept_calls kept_inits x u
+
+  rows : (b : Bool) (xs : c.Cores ℕ) → l.Rows kept_logic (evals b xs (world_in a d)) (evals b xs (world_in a d))
+  rows b xs = forms.evals_rel kept_logic S R R C C I I sites kept_calls kept_inits b xs
+
+  loop_kept : (t : Turn) → Kept (loop_of (world_in a d) t)
+  loop_kept t =
+      let w = world_in a d in
+      p.loop_rel kept_logic S t.target t.copies.now (part (v.part t.condition.now) w (Truth true)) (part (v.part t.condition.now) w (Truth true))
+      (part (v.part t.update.now) w Null) (part (v.part t.update.now) w Null) (part (v.part t.body.now) w Null) (part (v.part t.body.now) w Null)
+      (part_kept (v.part t.condition.now) (Truth true)) (part_kept (v.part t.update.now) Null) (part_kept (v.part t.body.now) Null)
+
+  next_kept : (t : Turn) → Kept (next_turn (world_in a d) t)
+  next_kept t =
+      let w = world_in a d in
+      p.going_on_rel kept_logic S t.target t.copies.now (part (v.part t.condition.now) w (Truth true)) (part (v.part t.condition.now) w (Truth true))
+      (part (v.part t.update.now) w Null) (part (v.part t.update.now) w Null) (part (v.part t.body.now) w Null) (part (v.part t.body.now) w Null)
+      (part_kept (v.part t.condition.now) (Truth true)) (part_kept (v.part t.update.now) Null) (part_kept (v.part t.body.now) Null)
+      (loop_of w t) (loop_of w t) (loop_kept t)
+
+  rest_kept : (t : Turn) (u : Value) → Kept (tested_by (world_in a d) t u)
+  rest_kept t u =
+      let w = world_in a d in
+      p.turn_rest_rel kept_logic S t.target t.copies.now (part (v.part t.condition.now) w (Truth true)) (part (v.part t.condition.now) w (Truth true))
+      (part (v.part t.update.now) w Null) (part (v.part t.update.now) w Null) (part (v.part t.body.now) w Null) (part (v.part t.body.now) w Null)
+      (part_kept (v.part t.condition.now) (Truth true)) (part_kept (v.part t.update.now) Null) (part_kept (v.part t.body.now) Null)
+      (loop_of w t) (loop_of w t) (loop_kept t) u
+
+  done_kept : (at : Place) (x : Task) (names : List ℕ) (vs : List Value) → Kept (done (world_in a d) at x names vs)
+  done_kept at (task.Row job) names vs = forms.row_rel kept_logic S R R C C I I sites kept_calls kept_inits at (v.job job) names vs
+  done_kept at (task.New k x types) names vs = calls.new_rel kept_logic S R R C C I I sites kept_calls kept_inits at k.0 x.0 (map ty types.now) (record { values = vs; names = names })
+  done_kept at (task.List types) names vs = p.new_list_rel kept_logic S (map ty types.now) vs
+
+  -- what an answer goes on with
+  going_on : (go : Value → Meaning) → ((u : Value) → Kept (go u)) → Keeps (on_answer go)
+  going_on go k y = l.answers kept_logic go go k (λ st. ends y st) (λ st. ends y st) (kept_ends y)
+
+  binary_kept : (at : Place) (one : c.Binary ℕ) (x y : Value) → Kept (binary (world_in a d) at one x y)
+  binary_kept at one x y = forms.binary_rel kept_logic S R R C C I I sites kept_calls kept_inits at one x y
+
+  labels_keep : (ns : List ℕ) → Keeps (labelled_all ns)
+  labels_keep [] y = kept_ends y
+  labels_keep (n ∷ ns) y =
+      p.labelled_rel kept_logic n (λ st. labelled_all ns (ends y st)) (λ st. labelled_all ns (ends y st)) (labels_keep ns y)
+
+  resumed_keeps : (b : Below) (frame : Frame) → Keeps (resumed (world_in a d) b frame)
+  resumed_keeps b (f.Rest xs) y =
+      going_on _ (l.in_order_rel kept_logic (evals false (forms_of xs.now) (world_in a d)) (evals false (forms_of xs.now) (world_in a d)) (rows false (forms_of xs.now))) y
+  resumed_keeps b (f.Choice one other) y =
+      going_on _ (λ u. l.chosen_rel kept_logic (is_true u) (part (v.part one.now) (world_in a d) Null) (part (v.part one.now) (world_in a d) Null)
+      (part (v.part other.now) (world_in a d) Null) (part (v.part other.now) (world_in a d) Null) (part_kept (v.part one.now) Null) (part_kept (v.part other.now) Null)) y
+  resumed_keeps b (f.Let x body) y =
+      kept_then (on_answer (λ _. eval (v.core body.now) (world_in a d))) (λ st. on_answer (declare S x) (ends y st))
+      (going_on (λ _. eval (v.core body.now) (world_in a d)) (λ _. form_kept (v.core body.now))) (going_on (declare S x) (p.declare_rel kept_logic S x) y)
+  resumed_keeps b (f.Operand at is_function one) y =
+      going_on _ (forms.unary_rel kept_logic S R R C C I I sites kept_calls kept_inits at is_function (v.unary one)) y
+  resumed_keeps b (f.First at one second) y =
+      going_on _ (λ x. l.answers kept_logic (λ y. binary (world_in a d) at (v.binary one) x y) (λ y. binary (world_in a d) at (v.binary one) x y) (binary_kept at (v.binary one) x)
+      (eval (v.core second.now) (world_in a d)) (eval (v.core second.now) (world_in a d)) (form_kept (v.core second.now))) y
+  resumed_keeps b (f.Second at one x) y = going_on _ (binary_kept at (v.binary one) x) y
+  resumed_keeps b (f.Row at x names rest n) y =
+      going_on _ (λ u. l.on_answers_rel kept_logic (done (world_in a d) at x (v.names names.now)) (done (world_in a d) at x (v.names names.now)) (done_kept at x (v.names names.now))
+      (evals (joins x) (forms_of rest.now) (world_in a d)) (evals (joins x) (forms_of rest.now) (world_in a d)) (rows (joins x) (forms_of rest.now)) (last_of n b.operands ++ u ∷ [])) y
+  resumed_keeps b (f.Test t) y = going_on _ (rest_kept t) y
+  resumed_keeps b (f.Body t) y =
+      p.after_body_rel kept_logic t.target (next_turn (world_in a d) t) (next_turn (world_in a d) t) (next_kept t) (λ st. ends y st) (λ st. ends y st) (kept_ends y)
+  resumed_keeps b (f.Update t) y = going_on _ (λ _. loop_kept t) y
+  resumed_keeps b f.Returning y = going_on _ (λ x. kept_ends (returns x)) y
+  resumed_keeps b (f.Labelled one) y = labels_keep (labels (v.core one.now)) y
+  resumed_keeps b (f.Is t) y = going_on _ (p.is_type_rel kept_logic S (ty t.now)) y
+  resumed_keeps b (f.As at t) y = going_on _ (p.as_type_rel kept_logic S at (ty t.now)) y
+  resumed_keeps b (f.Refused attempt rest value place) y =
+      let w = world_in a d in
+      let further = s.handled S (clauses (c.handlers (map v.handler rest.now)) w) value place in
+      p.finally_rel kept_logic (part (v.part (out-Attempt attempt.now).last) w Null) (part (v.part (out-Attempt attempt.now).last) w Null) (part_kept (v.part (out-Attempt attempt.now).last) Null)
+      (λ st. on_answer (λ _. further) (ends y st)) (λ st. on_answer (λ _. further) (ends y st))
+      (going_on (λ _. further) (λ _. forms.handled_rel kept_logic S R R C C I I sites kept_calls kept_inits (c.handlers (map v.handler rest.now)) value place) y)
+  resumed_keeps b (f.Trying attempt) y =
+      let w = world_in a d in
+      let handlers = c.handlers (map v.handler (out-Attempt attempt.now).handlers.items) in
+      p.finally_rel kept_logic (part (v.part (out-Attempt attempt.now).last) w Null) (part (v.part (out-Attempt attempt.now).last) w Null) (part_kept (v.part (out-Attempt attempt.now).last) Null)
+      (λ st. s.caught_by S (clauses handlers w) (ends y st)) (λ st. s.caught_by S (clauses handlers w) (ends y st))
+      (p.caught_by_rel kept_logic S (clauses handlers w) (clauses handlers w) (forms.handled_rel kept_logic S R R C C I I sites kept_calls kept_inits handlers)
+      (λ st. ends y st) (λ st. ends y st) (kept_ends y))
+  resumed_keeps b (f.Handling last around) y =
+      p.finally_rel kept_logic (part (v.part last.now) (world_in a d) Null) (part (v.part last.now) (world_in a d) Null) (part_kept (v.part last.now) Null)
+      (λ st. s.forgetting (thrown_of around) (ends y st)) (λ st. s.forgetting (thrown_of around) (ends y st))
+      (p.forgetting_rel kept_logic (thrown_of around) (λ st. ends y st) (λ st. ends y st) (kept_ends y))
+  resumed_keeps b (f.Ending x value) y = p.then_ends_rel kept_logic (completed x value) (λ st. ends y st) (λ st. ends y st) (kept_ends y)
+  resumed_keeps b (f.Applying at passed) y =
+      going_on _ (λ u. calls.apply_rel kept_logic S R R C C I I sites kept_calls kept_inits at u (given_of passed b.operands)) y
+  resumed_keeps b (f.Answering x) y = going_on _ (λ _. kept_ends (answer x)) y
+  resumed_keeps b (f.Caller at is_block n base depth body) y =
+      l.leaving_rel kept_logic at (λ st. returned is_block (activation_of body (drop base b.under)) (ends y st)) (λ st. returned is_block (activation_of body (drop base b.under)) (ends y st))
+      (forms.returned_rel kept_logic S R R C C I I sites kept_calls kept_inits is_block (activation_of body (drop base b.under)) (λ st. ends y st) (λ st. ends y st) (kept_ends y))
+  resumed_keeps b (f.Restoring base depth body) y =
+      forms.returned_rel kept_logic S R R C C I I sites kept_calls kept_inits false (activation_of body (drop base b.under)) (λ st. ends y st) (λ st. ends y st) (kept_ends y)
+  resumed_keeps b (f.Settling at x) y =
+      l.leaving_rel kept_logic at (λ st. settled x (ends y st)) (λ st. settled x (ends y st)) (p.settled_rel kept_logic x (λ st. ends y st) (λ st. ends y st) (kept_ends y))
+
+mute_mute : (o : Outcome) → mute o ≡ mute (mute o)
+mute_mute (ends c st) = refl
+
+resume_from_mute : (a : Around) (b : Below) (fs : List Frame) (o : Outcome) → mute (resume_from a b fs o) ≡ mute (resume_from a b fs (mute o))
+resume_from_mute a b [] o = mute_mute o
+resume_from_mute a b (x ∷ fs) o =
+    resume_from_mute a (below b x) fs (resumed (world_in a b.depth) b x o)
+    ∙ ap (λ o. mute (resume_from a (below b x) fs o)) (keeps_mute (resumed (world_in a b.depth) b x) (resumed_keeps a b.depth b x) o)
+    ∙ sym (resume_from_mute a (below b x) fs (resumed (world_in a b.depth) b x (mute o)))
+
+-- outcomes that differ in events alone are resumed alike
+pub quiet : (a : Around) (b : Below) (fs : List Frame) (o o' : Outcome) → mute o ≡ mute o' → mute (resume a b fs o) ≡ mute (resume a b fs o')
+quiet a b fs o o' e =
+    resume_from_mute a b (reverse fs) o ∙ ap (λ o. mute (resume_from a b (reverse fs) o)) e ∙ sym (resume_from_mute a b (reverse fs) o')
+
+-- in production a value that comes to a site passes
+passes_by : (b : Bool) (a : Around) (n : ℕ) (u : Value) (st : State) → judged b (checking_of a) (setting_of a) lets_pass n u st ≡ ends (answer u) st
+passes_by true a n u st = refl
+passes_by false a n u st = refl
+
+site_passes : (a : Around) (d n : ℕ) (u : Value) (st : State) → mute (site (world_in a d) n u st) ≡ mute (ends (answer u) st)
+site_passes a d n u st =
+    ap mute (passes_by (passes (checking_of a) n (head_of (setting_of a) st.heap u) (arguments_here (setting_of a) (now st))) a n u
+    (with_event st (tested n (head_of (setting_of a) st.heap u) (arguments_here (setting_of a) (now st)))))
+
+pub site_goes : (a : Around) (d : ℕ) (b : Below) (fs : List Frame) (n : ℕ) (u : Value) (st : State)
+    → mute (resume a b fs (ends (answer u) st)) ≡ mute (resume a b fs (site (world_in a d) n u st))
+site_goes a d b fs n u st = sym (quiet a b fs (site (world_in a d) n u st) (ends (answer u) st) (site_passes a d n u st))
+
+-- a parameter whose value has passed its site
+pub bind_goes : (a : Around) (d : ℕ) (b : Below) (fs : List Frame) (g : Given) (qs : List (Parameter ℕ)) (i : ℕ) (body : c.Part ℕ) (x n : ℕ) (u : Value) (st : State)
+    → mute (resume a b fs (on_answer (λ _. binding (world_in a d) g qs i (part body (world_in a d) Null)) (declare (setting_of a) x u st)))
+    ≡ mute (resume a b fs (on_answer (λ _. binding (world_in a d) g qs i (part body (world_in a d) Null)) (on_answer (declare (setting_of a) x) (site (world_in a d) n u st))))
+bind_goes a d b fs g qs i body x n u st =
+    quiet a b fs _ _
+    (sym (keeps_mute (λ o. on_answer (λ _. binding (world_in a d) g qs i (part body (world_in a d) Null)) (on_answer (declare (setting_of a) x) o)) keeps (site (world_in a d) n u st)
+    ∙ ap (λ o. mute (on_answer (λ _. binding (world_in a d) g qs i (part body (world_in a d) Null)) (on_answer (declare (setting_of a) x) o))) (site_passes a d n u st)
+    ∙ sym (keeps_mute (λ o. on_answer (λ _. binding (world_in a d) g qs i (part body (world_in a d) Null)) (on_answer (declare (setting_of a) x) o)) keeps (ends (answer u) st))))
+  where
+    keeps : Keeps (λ o. on_answer (λ _. binding (world_in a d) g qs i (part body (world_in a d) Null)) (on_answer (declare (setting_of a) x) o))
+    keeps y =
+        kept_then (on_answer (λ _. binding (world_in a d) g qs i (part body (world_in a d) Null))) (λ st. on_answer (declare (setting_of a) x) (ends y st))
+        (going_on a d (λ _. binding (world_in a d) g qs i (part body (world_in a d) Null))
+        (λ _. forms.binding_rel kept_logic (S a d) (R a d) (R a d) (C a d) (C a d) (I a d) (I a d) (sites a d) (kept_calls a d) (kept_inits a d) g qs i (part body (world_in a d) Null) (part body (world_in a d) Null) (part_kept a d body Null)))
+        (going_on a d (declare (setting_of a) x) (p.declare_rel kept_logic (setting_of a) x) y)

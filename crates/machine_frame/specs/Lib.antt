@@ -1,0 +1,5 @@
+pub mod Natives
+pub mod Outside
+pub mod Labels
+pub mod Frames
+pub mod Kinds

@@ -1,0 +1,168 @@
+// A run at work: its frames, its stacks and its store.
+#![tactic(auto)]
+
+use core_program::form::{Attempt, Binary, Core, Handler, Job, Part, Unary, Way};
+use core_program::program::{Function, Parameter};
+use dart_base::name::Name;
+use dart_base::place::Place;
+use dart_ir::ending::Line;
+use dart_ir::number::{ClassId, DeclId};
+use dart_ir::types::TypeRef;
+use dart_ir::value::Value;
+use dart_store::store::Store;
+use std::alloc::Global;
+
+/// The limits that end a turn.
+#[derive(Clone, Copy)]
+pub enum Limit {
+    OutOfSteps,
+    OutOfObjects,
+    OutOfDepth,
+    IntegerLimit,
+    NeedsDouble,
+    TypeLimit,
+}
+
+/// Whose body is at work: a function's, or the initialiser of a static variable, by their numbers.
+#[derive(Clone, Copy)]
+pub enum Source {
+    Function(u32),
+    Initialiser(u32),
+}
+
+/// What was thrown, and the place of the form that threw it first.
+#[derive(Clone, Copy)]
+pub struct Caught {
+    pub value: Value,
+    pub place: Place,
+}
+
+/// A body at work, beside its slots.
+#[derive(Clone, Copy)]
+pub struct Body {
+    pub source: Source,
+    /// The class at whose declaration a member was found.
+    pub owner: u32,
+    pub this: Value,
+    pub closure: Value,
+    /// What the handler at work has caught.
+    pub caught: Option<Caught>,
+}
+
+/// The last values of the operands, maybe without the first of them, as what is given to a call.
+#[derive(Clone, Copy)]
+pub struct Passed<'a> {
+    /// The names that the last of the values go by.
+    pub names: &'a [Name],
+    pub skip: bool,
+    pub count: u32,
+}
+
+/// What a body is entered with, beside what is given.
+#[derive(Clone, Copy)]
+pub struct Called {
+    pub this: Value,
+    pub owner: u32,
+    pub closure: Value,
+}
+
+/// A loop at work.
+#[derive(Clone, Copy)]
+pub struct Turn<'a> {
+    pub target: u32,
+    pub copies: &'a [u32],
+    pub condition: &'a Part,
+    pub update: &'a Part,
+    pub body: &'a Part,
+}
+
+/// What is done with the answers of a row of forms.
+#[derive(Clone, Copy)]
+pub enum Task<'a> {
+    Row(Job),
+    New(ClassId, DeclId, &'a [TypeRef]),
+    List(&'a [TypeRef]),
+}
+
+/// What waits for the form that is at work.
+#[derive(Clone, Copy)]
+pub enum Frame<'a> {
+    /// The others of a block.
+    Rest(&'a [Core]),
+    /// Two parts, of which the answer chooses one.
+    Choice(&'a Part, &'a Part),
+    /// A variable for the value, and the body in which it stands.
+    Let(u32, &'a Core),
+    /// What is done with an operand, and whether this is a function.
+    Operand(Place, bool, Unary),
+    /// The second operand comes next.
+    First(Place, Binary, &'a Core),
+    /// The first operand's answer is there.
+    Second(Place, Binary, Value),
+    /// A row of which so many answers are among the operands.
+    Row(Place, Task<'a>, &'a [Name], &'a [Core], u32),
+    Test(Turn<'a>),
+    Body(Turn<'a>),
+    Update(Turn<'a>),
+    Returning,
+    /// A statement with one label or more.
+    Labelled(&'a Core),
+    /// Whether the operand's value is of the type.
+    Is(&'a TypeRef),
+    /// The operand's value, where it is of the type or null.
+    As(Place, &'a TypeRef),
+    Trying(&'a Attempt),
+    /// The type of a handler is malformed, and its form is at work: the handlers behind it, and what was thrown, with its place.
+    Refused(&'a Attempt, &'a [Handler], Value, Place),
+    /// A handler at work: the final part, and what was caught around.
+    Handling(&'a Part, Option<Caught>),
+    /// A final part at work: how the form is left once it is done.
+    Ending(Exit, Value),
+    /// A getter at work, whose value is called with what is given.
+    Applying(Place, Passed<'a>),
+    /// The answer is this value.
+    Answering(Value),
+    /// A call of a function: whether its body is a block, how many operands were given, and the caller.
+    Caller(Place, bool, u32, u32, u32, Body),
+    /// An initialiser at work, and the body that read the variable.
+    Restoring(u32, u32, Body),
+    /// A static variable whose initialiser is at work.
+    Settling(Place, u32),
+}
+
+/// How a form is left: what it answers, returns or throws is the run's answer.
+#[derive(Clone, Copy)]
+pub enum Exit {
+    Answered,
+    Jumps(Way, u32),
+    Returns,
+    Throws(Place),
+    Over(Limit),
+}
+
+/// What the machine does next.
+#[derive(Clone, Copy)]
+pub enum Control<'a> {
+    Enter(&'a Core),
+    Leave(Exit),
+    /// The parameters of a function from this on are bound, and then its body is entered.
+    Bind(&'a Function, &'a [Parameter], u32, Passed<'a>),
+}
+
+/// A run at work.
+#[derive(Drop)]
+pub struct Run<'a> {
+    pub alloc: Global,
+    pub frames: Vec<Frame<'a>>,
+    /// The variables of all bodies at work; those of the topmost begin at the base.
+    pub slots: Vec<Value>,
+    pub base: u32,
+    pub operands: Vec<Value>,
+    pub body: Body,
+    pub answer: Value,
+    /// How deep calls may nest from here.
+    pub depth: u32,
+    pub left: u64,
+    pub store: Store,
+    pub output: Vec<Line>,
+}

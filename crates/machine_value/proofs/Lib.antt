@@ -1,0 +1,4 @@
+pub mod Closures
+pub mod Joined
+pub mod Shown
+pub mod Supertypes
