@@ -1,0 +1,5 @@
+// Forms that are answered at once, and turns of loops.
+#![tactic(auto, using(machine_frame::proofs::Resume::resume_push, machine_frame::proofs::Steps::load_push, machine_frame::proofs::Rows::row_laws))]
+
+pub mod loops;
+pub mod quick;
