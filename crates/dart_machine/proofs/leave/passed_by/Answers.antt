@@ -1,0 +1,72 @@
+use Rattle.std.proofs.Common.{refl}
+use Rattle.machine_frame.proofs.Passing.{passes_answer, passes_ending}
+use Rattle.dart_machine.proofs.leave.passed_by.Goals as goal
+
+pub returns-in-Rest-clause-meaning : goal.returns-in-Rest-clause-meaning
+returns-in-Rest-clause-meaning c = let h = c.requires.left in rw (c.in-Rest.is, passes_answer) refl
+
+pub returns-in-Choice-clause-meaning : goal.returns-in-Choice-clause-meaning
+returns-in-Choice-clause-meaning c = let h = c.requires.left in rw (c.in-Choice.is, passes_answer) refl
+
+pub returns-in-Let-clause-meaning : goal.returns-in-Let-clause-meaning
+returns-in-Let-clause-meaning c = let h = c.requires.left in rw (c.in-Let.is, passes_answer, passes_answer) refl
+
+pub returns-in-Operand-clause-meaning : goal.returns-in-Operand-clause-meaning
+returns-in-Operand-clause-meaning c = let h = c.requires.left in rw (c.in-Operand.is, passes_answer) refl
+
+pub returns-in-First-clause-meaning : goal.returns-in-First-clause-meaning
+returns-in-First-clause-meaning c = let h = c.requires.left in rw (c.in-First.is, passes_answer) refl
+
+pub returns-in-Second-clause-meaning : goal.returns-in-Second-clause-meaning
+returns-in-Second-clause-meaning c = let h = c.requires.left in rw (c.in-Second.is, passes_answer) refl
+
+pub returns-in-Test-clause-meaning : goal.returns-in-Test-clause-meaning
+returns-in-Test-clause-meaning c = let h = c.requires.left in rw (c.in-Test.is, passes_answer) refl
+
+pub returns-in-Update-clause-meaning : goal.returns-in-Update-clause-meaning
+returns-in-Update-clause-meaning c = let h = c.requires.left in rw (c.in-Update.is, passes_answer) refl
+
+pub returns-in-Returning-clause-meaning : goal.returns-in-Returning-clause-meaning
+returns-in-Returning-clause-meaning c = let h = c.requires.left in rw (c.in-Returning.is, passes_answer) refl
+
+pub returns-in-Answering-clause-meaning : goal.returns-in-Answering-clause-meaning
+returns-in-Answering-clause-meaning c = let h = c.requires.left in rw (c.in-Answering.is, passes_answer) refl
+
+pub returns-in-Ending-clause-meaning : goal.returns-in-Ending-clause-meaning
+returns-in-Ending-clause-meaning c = let h = c.requires.left in rw (c.in-Ending.is, passes_ending) refl
+
+pub returns-in-Is-clause-meaning : goal.returns-in-Is-clause-meaning
+returns-in-Is-clause-meaning c = let h = c.requires.left in rw (c.in-Is.is, passes_answer) refl
+
+pub returns-in-As-clause-meaning : goal.returns-in-As-clause-meaning
+returns-in-As-clause-meaning c = let h = c.requires.left in rw (c.in-As.is, passes_answer) refl
+
+pub returns-in-Refused-clause-meaning : goal.returns-in-Refused-clause-meaning
+returns-in-Refused-clause-meaning c = rw c.in-Refused.is c.leave_refused.ensures.meaning
+
+pub returns-in-Body-clause-meaning : goal.returns-in-Body-clause-meaning
+returns-in-Body-clause-meaning c = rw c.in-Body.is c.leave_body.ensures.meaning
+
+pub returns-in-Labelled-clause-meaning : goal.returns-in-Labelled-clause-meaning
+returns-in-Labelled-clause-meaning c = rw c.in-Labelled.is c.leave_label.ensures.meaning
+
+pub returns-in-Trying-clause-meaning : goal.returns-in-Trying-clause-meaning
+returns-in-Trying-clause-meaning c = rw c.in-Trying.is c.leave_try.ensures.meaning
+
+pub returns-in-Handling-clause-meaning : goal.returns-in-Handling-clause-meaning
+returns-in-Handling-clause-meaning c = rw c.in-Handling.is c.leave_handler.ensures.meaning
+
+pub returns-in-Caller-clause-meaning : goal.returns-in-Caller-clause-meaning
+returns-in-Caller-clause-meaning c = rw c.in-Caller.is c.leave_call.ensures.meaning
+
+pub returns-in-Restoring-clause-meaning : goal.returns-in-Restoring-clause-meaning
+returns-in-Restoring-clause-meaning c = rw c.in-Restoring.is c.leave_initialiser.ensures.meaning
+
+pub returns-in-Settling-clause-meaning : goal.returns-in-Settling-clause-meaning
+returns-in-Settling-clause-meaning c = rw c.in-Settling.is c.settle.ensures.meaning
+
+pub returns-in-Row-clause-meaning : goal.returns-in-Row-clause-meaning
+returns-in-Row-clause-meaning c = let h = c.requires.left in rw (c.in-Row.is, passes_answer) c.leave_operands.ensures.meaning
+
+pub returns-in-Applying-clause-meaning : goal.returns-in-Applying-clause-meaning
+returns-in-Applying-clause-meaning c = let h = c.requires.left in rw (c.in-Applying.is, passes_answer) c.leave_operands-in-Applying.ensures.meaning

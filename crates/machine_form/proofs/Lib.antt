@@ -1,0 +1,6 @@
+pub mod Acts
+pub mod Entered
+pub mod Functions
+pub mod Pieces
+pub mod Received
+pub mod Rowed

@@ -1,0 +1,267 @@
+// Rows of operands.
+ghost use Rattle.std.specs.Prelude.{◌≡◌, ◌<◌, ◌≤◌, ◌+◌, ◌∷◌, [], true, false, drop, IfOk, IfSome, MatchOption};
+ghost use Rattle.dart_ir.specs.declared.value.Value.TheVariants.{Null};
+ghost use Rattle.core_program.specs.View as v;
+ghost use Rattle.machine_lookup.specs.Rows.{last_of, but_last};
+ghost use Rattle.evaluation.specs.State.{State, Meaning, Outcome, Completion, answer, ends};
+ghost use Rattle.evaluation.specs.Sequence.{on_answer, on_answers};
+ghost use Rattle.evaluation.specs.Parts.{form_of, constant_of, constant_leaf};
+ghost use Rattle.evaluation.specs.Evaluation.{eval, evals, piece, row};
+ghost use Rattle.evaluation.specs.Externals.{native};
+ghost use Rattle.machine_frame.specs.Outside.{setting_of, world_in};
+ghost use Rattle.machine_frame.specs.Frames.{seen, going, does, does_row, room, work, forms_of, done, joins, given_of};
+
+use core_program::form::{Core, Form, Job, Leaf};
+use dart_base::name::Name;
+use dart_base::place::Place;
+use dart_ir::value::Value;
+use machine_call::callables::apply;
+use machine_call::calls::{null_of_call, static_call};
+use machine_call::creation::{construct, create};
+use machine_call::sends::{send, super_member};
+use machine_frame::around::{Around, Fault};
+use machine_frame::run::{Control, Frame, Passed, Run, Task};
+use machine_frame::stacks::{push_frame, push_operand};
+use machine_lookup::row::{first_form, first_value, last_of};
+use machine_loop::quick::quick;
+use machine_native::natives::native;
+use machine_value::objects::make_list;
+use machine_value::texts::join;
+
+/// Begins a row.
+#[inline(always)]
+pub fn begin_row<'a>(
+    run: &mut Run<'a>,
+    a: Around<'a>,
+    at: Place,
+    task: Task<'a>,
+    names: &'a [Name],
+    forms: &'a [Core],
+) -> Result<Control<'a>, Fault>
+    ensures meaning { IfOk result (λ c. going a.entry run.new c ≡ does a.entry run.old (λ w. on_answers (done w at task.entry (v.names names.now)) (evals (joins task.entry) (forms_of forms.now) w) [])) }
+    ensures less { IfOk result (λ c. work run.new c < room run.old + 10) }
+{
+    next(run, a, at, task, names, forms, 0)
+}
+
+/// The next of a row, or what is done where all are there.
+#[inline(always)]
+pub fn next<'a>(
+    run: &mut Run<'a>,
+    a: Around<'a>,
+    at: Place,
+    task: Task<'a>,
+    names: &'a [Name],
+    forms: &'a [Core],
+    count: u32,
+) -> Result<Control<'a>, Fault>
+    ensures meaning { IfOk result (λ c. going a.entry run.new c ≡ does_row a.entry run.old count (λ w. on_answers (done w at task.entry (v.names names.now)) (evals (joins task.entry) (forms_of forms.now) w) (last_of count run.old.operands.items))) }
+    ensures less { IfOk result (λ c. work run.new c < room run.old + 10) }
+{
+    match first_form(forms) {
+        None => finish(run, a, at, task, names, count),
+        Some((first, rest)) => match piece_value(run, a, task, first) {
+            None => {
+                push_frame(run, Frame::Row(at, task, names, rest, count))?;
+                Ok(Control::Enter(first))
+            }
+            Some((value, left)) => {
+                let Some(more) = count.checked_add(1) else {
+                    return Err(Fault::Memory);
+                };
+                run.left = left;
+                push_operand(run, value)?;
+                let control = next(run, a, at, task, names, rest, more)?;
+                Ok(control)
+            }
+        },
+    }
+}
+
+/// An operand that is answered at once, with the steps left after it: a constant piece of a string takes none. What isn't is entered
+/// as any form.
+#[inline(always)]
+fn piece_value<'a>(run: &Run<'a>, a: Around<'a>, task: Task<'a>, one: &Core) -> Option<(Value, u64)>
+    ensures value { MatchOption result
+        (piece (joins task.entry) (constant_of (form_of (v.core one.now))) (eval (v.core one.now) (world_in a.entry run.now.depth)) (seen run.now) ≡ eval (v.core one.now) (world_in a.entry run.now.depth) (seen run.now))
+        (λ p. piece (joins task.entry) (constant_of (form_of (v.core one.now))) (eval (v.core one.now) (world_in a.entry run.now.depth)) (seen run.now) ≡ ends (answer p.0) (record (seen run.now) { left = p.1 })) }
+    ensures less { IfSome result (λ p. p.1 ≤ run.now.left) }
+{
+    if joins(task) {
+        if let Some(value) = constant_of(one) {
+            return Some((value, run.left));
+        }
+        return None;
+    }
+    quick(run, a, one, run.left)
+}
+
+/// Whether the row is a string with parts.
+fn joins(task: Task) -> bool
+    ensures { result ≡ joins task.entry }
+{
+    match task {
+        Task::Row(Job::Join) => true,
+        Task::Row(_) => false,
+        Task::New(_, _, _) => false,
+        Task::List(_) => false,
+    }
+}
+
+/// The value of a constant.
+#[tactic(auto, using(core_program::proofs::Views::views))]
+fn constant_of(one: &Core) -> Option<Value>
+    ensures { result ≡ constant_of (form_of (v.core one.now)) }
+{
+    constant_form(&one.form)
+}
+
+#[tactic(auto, using(core_program::proofs::Views::views))]
+fn constant_form(form: &Form) -> Option<Value>
+    ensures { result ≡ constant_of (v.form form.now) }
+{
+    match form {
+        Form::Leaf(leaf) => constant_leaf(*leaf),
+        Form::TypeLiteral(_) => None,
+        Form::Unary(_, _) => None,
+        Form::Binary(_, _, _) => None,
+        Form::Row(_, _) => None,
+        Form::Let {
+            var: _,
+            value: _,
+            body: _,
+        } => None,
+        Form::Block(_) => None,
+        Form::If {
+            condition: _,
+            first: _,
+            second: _,
+        } => None,
+        Form::New {
+            class: _,
+            constructor: _,
+            types: _,
+            arguments: _,
+        } => None,
+        Form::List { types: _, items: _ } => None,
+        Form::Is(_, _) => None,
+        Form::As(_, _) => None,
+        Form::Loop {
+            target: _,
+            copies: _,
+            condition: _,
+            update: _,
+            body: _,
+        } => None,
+        Form::Return(_) => None,
+        Form::Try(_) => None,
+        Form::Switch {
+            target: _,
+            value: _,
+            cases: _,
+        } => None,
+        Form::Labelled(_, _) => None,
+    }
+}
+
+fn constant_leaf(leaf: Leaf) -> Option<Value>
+    ensures { result ≡ constant_leaf (v.leaf leaf) }
+{
+    match leaf {
+        Leaf::Closure(_) => None,
+        Leaf::Const(value) => Some(value),
+        Leaf::This => None,
+        Leaf::Read(_) => None,
+        Leaf::StaticRead(_) => None,
+        Leaf::Field(_) => None,
+        Leaf::Jump(_, _) => None,
+        Leaf::Rethrow => None,
+        Leaf::Raise {
+            error: _,
+            name: _,
+            is_setter: _,
+        } => None,
+    }
+}
+
+/// The end of a row.
+#[inline(always)]
+fn finish<'a>(
+    run: &mut Run<'a>,
+    a: Around<'a>,
+    at: Place,
+    task: Task<'a>,
+    names: &'a [Name],
+    count: u32,
+) -> Result<Control<'a>, Fault>
+    ensures meaning { IfOk result (λ c. going a.entry run.new c ≡ does_row a.entry run.old count (λ w. done w at task.entry (v.names names.now) (last_of count run.old.operands.items))) }
+    ensures less { IfOk result (λ c. work run.new c < room run.old + 10) }
+{
+    let passed = Passed {
+        names,
+        skip: false,
+        count,
+    };
+    match task {
+        Task::Row(job) => finish_job(run, a, at, job, passed),
+        Task::New(class, constructor, types) => create(
+            run,
+            a,
+            at,
+            class.0,
+            constructor.0,
+            types,
+            passed,
+        ),
+        Task::List(types) => make_list(run, a, types, count),
+    }
+}
+
+#[inline(always)]
+fn finish_job<'a>(
+    run: &mut Run<'a>,
+    a: Around<'a>,
+    at: Place,
+    job: Job,
+    passed: Passed<'a>,
+) -> Result<Control<'a>, Fault>
+    requires { passed.skip ≡ false }
+    ensures meaning { IfOk result (λ c. going a.entry run.new c ≡ does_row a.entry run.old passed.entry.count (λ w. row w at (v.job job) (v.names passed.entry.names.now) (last_of passed.entry.count run.old.operands.items))) }
+    ensures less { IfOk result (λ c. work run.new c < room run.old + 10) }
+{
+    match job {
+        Job::Send(name) => match receiver(run, passed.count) {
+            None => Ok(null_of_call(run, a, passed.count)),
+            Some(this) => send(run, a, at, name.0, this, with_receiver(passed)),
+        },
+        Job::Apply => match receiver(run, passed.count) {
+            None => Ok(null_of_call(run, a, passed.count)),
+            Some(callee) => apply(run, a, at, callee, with_receiver(passed)),
+        },
+        Job::Super(role, name) => super_member(run, a, at, role, name.0, passed),
+        Job::Call(f) => static_call(run, a, at, f.0, passed),
+        Job::SuperNew(f) => construct(run, a, at, f.0, passed),
+        Job::Join => join(run, a, at, passed.count),
+        Job::Native(id) => native(run, a, at, id, passed.count),
+    }
+}
+
+/// The first of the last operands.
+#[inline(always)]
+fn receiver(run: &Run, count: u32) -> Option<Value>
+    ensures { MatchOption result (last_of count run.now.operands.items ≡ []) (λ v. last_of count run.now.operands.items ≡ v ∷ drop 1 (last_of count run.now.operands.items)) }
+{
+    first_value(last_of(run.operands.as_slice(), count))
+}
+
+#[inline(always)]
+fn with_receiver<'a>(passed: Passed<'a>) -> Passed<'a>
+    ensures names { result.names.now ≡ passed.entry.names.now }
+    ensures rest { (result.skip ≡ true) × (result.count ≡ passed.entry.count) }
+{
+    Passed {
+        names: passed.names,
+        skip: true,
+        count: passed.count,
+    }
+}

@@ -1,0 +1,6 @@
+-- the bytes so far are added
+use Rattle.std.proofs.Common.{◌≡◌, ◌++◌, take}
+use Rattle.machine_turn.proofs.text.push_bytes.Given as goal
+
+abbrev pub invariant-loop-byte : goal.invariant-loop-byte
+invariant-loop-byte l = l.units ≡ l.fn.units ++ take l.byte-index l.bytes
