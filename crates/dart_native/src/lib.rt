@@ -2,5 +2,3 @@
 #![tactic(auto)]
 
 pub mod native;
-#[cfg(test)]
-mod tests;

@@ -3,5 +3,3 @@
 
 pub mod length;
 pub mod steps;
-#[cfg(test)]
-mod tests;

@@ -1,20 +1,25 @@
-// A store with a few literals, and calls on it.
+// A store with a few literals, and calls on it. No function here has a contract, so what it does is proved once, and tests know
+// nothing of it.
 
-use crate::native::call;
 use dart_base::name::Name;
 use dart_base::names::Names;
 use dart_base::place::Place;
 use dart_base::units::Units;
 use dart_ir::class::ClassInfo;
+use dart_ir::kind::ThrowKind;
 use dart_ir::native::{Answer, NativeId};
 use dart_ir::number::{ClassId, Ref};
 use dart_ir::object::Object;
 use dart_ir::types::TypeRef;
 use dart_ir::value::{Value, integer_value};
+use dart_native::native::call;
 use dart_store::store::{Store, StoreFault};
 use native_object::known::KnownClasses;
 use native_object::shown::Around;
+use native_steps::steps::steps;
 use std::alloc::{AllocError, Global};
+use std::process::Abort;
+use std::test::Fail;
 
 pub const NONE: u32 = 0;
 
@@ -78,6 +83,69 @@ pub const PAIR: ClassId = ClassId(10);
 pub const INT: ClassId = ClassId(3);
 
 pub const LIST: ClassId = ClassId(5);
+
+/// A value in a table.
+#[derive(Clone, Copy, Debug)]
+pub enum Given {
+    Nothing,
+    True,
+    Int(i128),
+    /// A literal.
+    Text(u32),
+    /// The first object.
+    First,
+}
+
+/// An answer in a table.
+#[derive(Clone, Copy, Debug)]
+pub enum Due {
+    Null,
+    Int(i128),
+    /// A literal.
+    Text(u32),
+    Throws(ThrowKind),
+    IntegerLimit,
+}
+
+/// A native, its three arguments, and its answer.
+pub type Row = (NativeId, Given, Given, Given, Due);
+
+fn value(given: Given) -> Value {
+    match given {
+        Given::Nothing => Value::Null,
+        Given::True => Value::Bool(true),
+        Given::Int(number) => integer_value(number),
+        Given::Text(index) => Value::Literal(index),
+        Given::First => FIRST,
+    }
+}
+
+fn answer(due: Due) -> Answer {
+    match due {
+        Due::Null => NULL,
+        Due::Int(number) => Answer::Value(integer_value(number)),
+        Due::Text(index) => Answer::Value(Value::Literal(index)),
+        Due::Throws(kind) => Answer::Throw(kind),
+        Due::IntegerLimit => Answer::IntegerLimit,
+    }
+}
+
+/// Makes each call in turn, and compares its answer.
+pub fn check_each(rt: &impl Abort, w: &mut World, rows: &[Row]) -> Result<(), StoreFault> {
+    for (native, this, x, y, due) in rows {
+        let answered = w.call_given(*native, *this, *x, *y)?;
+        assert_eq!(rt; answered, answer(*due), "{native:?} {this:?} {x:?} {y:?}");
+    }
+    Ok(())
+}
+
+/// Makes each call in turn, for none of which there is room.
+pub fn refuse_each(rt: &impl Abort, w: &mut World, rows: &[(NativeId, Given, Given, Given)]) {
+    for (native, this, x, y) in rows {
+        let is_refused = w.has_no_room(*native, *this, *x, *y);
+        assert!(rt; is_refused, "{native:?} {this:?} {x:?} {y:?}");
+    }
+}
 
 /// What natives are called on.
 #[derive(Drop)]
@@ -156,22 +224,73 @@ fn known() -> KnownClasses {
 }
 
 impl World {
-    /// What a native answers.
-    pub fn call(&mut self, native: NativeId, args: &[Value]) -> Result<Answer, StoreFault> {
-        let around = Around {
+    fn around(&self) -> Around<'_> {
+        Around {
             literals: self.literals.as_slice(),
             names: &self.names,
             classes: self.classes.as_slice(),
             known: known(),
-        };
-        call(self.alloc, native, &[], args, &around, &mut self.store)
+        }
     }
 
-    /// The same for a factory with one type argument.
-    pub fn make(
+    /// How many steps a native takes.
+    pub fn steps(&self, native: NativeId, this: Given, x: Given, y: Given) -> u64 {
+        let args = [value(this), value(x), value(y)];
+        steps(native, &args, &self.around(), &self.store)
+    }
+
+    /// The units that are taken.
+    pub fn used(&self) -> u64 {
+        self.store.used()
+    }
+
+    /// How many items a list has.
+    pub fn length(&self, list: Ref) -> usize {
+        self.store.length(list)
+    }
+
+    /// A new object.
+    pub fn add(&mut self, object: Object) -> Result<Value, StoreFault> {
+        Ok(Value::At(self.store.add(object)?))
+    }
+
+    /// What a native answers in a table.
+    pub fn call_given(
         &mut self,
         native: NativeId,
-        of: TypeRef,
+        this: Given,
+        x: Given,
+        y: Given,
+    ) -> Result<Answer, StoreFault> {
+        self.call(native, &[value(this), value(x), value(y)])
+    }
+
+    /// Whether there is no room for what a native makes.
+    pub fn has_no_room(&mut self, native: NativeId, this: Given, x: Given, y: Given) -> bool {
+        match self.call_given(native, this, x, y) {
+            Err(StoreFault::Full) => true,
+            Ok(_) | Err(StoreFault::Memory) => false,
+        }
+    }
+
+    /// Whether a native makes a string of this ASCII text.
+    pub fn makes_text(
+        &mut self,
+        native: NativeId,
+        this: Given,
+        x: Given,
+        y: Given,
+        wanted: &[u8],
+    ) -> Result<bool, StoreFault> {
+        let made = self.call_given(native, this, x, y)?;
+        Ok(self.is_text(made, wanted))
+    }
+
+    // What a native answers, for a factory with these type arguments.
+    fn make(
+        &mut self,
+        native: NativeId,
+        types: &[TypeRef],
         args: &[Value],
     ) -> Result<Answer, StoreFault> {
         let around = Around {
@@ -180,7 +299,19 @@ impl World {
             classes: self.classes.as_slice(),
             known: known(),
         };
-        call(self.alloc, native, &[of], args, &around, &mut self.store)
+        call(self.alloc, native, types, args, &around, &mut self.store)
+    }
+
+    /// A new list of integers.
+    pub fn make_list(&mut self) -> Result<Answer, Fail> {
+        let mut types = Vec::new(self.alloc);
+        types.push(TypeRef::Class(INT, Vec::new(self.alloc)))?;
+        Ok(self.make(NativeId::ListNew, &types, &[])?)
+    }
+
+    /// What a native answers.
+    pub fn call(&mut self, native: NativeId, args: &[Value]) -> Result<Answer, StoreFault> {
+        self.make(native, &[], args)
     }
 
     /// Whether an answer is a string of this ASCII text.
