@@ -13,4 +13,3 @@ pub mod Assigned
 pub mod Taken
 pub mod Searched
 pub mod Closed
-pub mod Tested

@@ -6,4 +6,3 @@ pub mod Answers
 pub mod Clauses
 pub mod Intern
 pub mod Search
-pub mod Testing

@@ -12,5 +12,3 @@ mod intern;
 pub mod member;
 mod search;
 pub mod subtype;
-#[cfg(test)]
-mod tests;

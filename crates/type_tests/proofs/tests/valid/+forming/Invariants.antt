@@ -1,7 +1,7 @@
 use Rattle.std.proofs.Common.{drop}
 use Rattle.dart_ir.specs.Ty.{tys, named_tys}
 use Rattle.dart_ir.specs.Classes.{AreFormed, AreNamedFormed}
-use Rattle.dart_type.proofs.tests.valid.+forming.Given as goal
+use Rattle.type_tests.proofs.tests.valid.+forming.Given as goal
 
 abbrev pub invariant-are_formed-loop-t : goal.invariant-are_formed-loop-t
 invariant-are_formed-loop-t l = AreFormed l.k l.n (tys (drop l.t-index l.ts)) → AreFormed l.k l.n (tys l.ts)

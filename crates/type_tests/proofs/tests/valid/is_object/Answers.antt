@@ -1,7 +1,7 @@
 use Rattle.std.proofs.Common.{◌≡◌, length, vec_len, rules, sym, ◌∙◌}
 use Rattle.std.proofs.lemmas.Bool.{eqb-true}
-use Rattle.dart_type.proofs.Tested.{nothing_in, class_object}
-use Rattle.dart_type.proofs.tests.valid.is_object.Goals as goal
+use Rattle.type_tests.proofs.Tested.{nothing_in, class_object}
+use Rattle.type_tests.proofs.tests.valid.is_object.Goals as goal
 
 pub returns-else-e-ne0 : goal.returns-else-e-ne0
 returns-else-e-ne0 c = λ h.

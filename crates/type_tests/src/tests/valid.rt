@@ -2,7 +2,7 @@
 ghost use Rattle.std.specs.Prelude.{◌≡◌, ◌<◌, ℕ, All, Some, length, IsTrue, true};
 ghost use Rattle.dart_ir.specs.Ty.{ty, tys, function_ty, named_ty, named_tys, class, nil};
 ghost use Rattle.dart_ir.specs.Classes.{IsValid, IsValidClass, IsFunctionClass, IsFormed, AreFormed, AreNamedFormed, IsPlain, ArePlain, HasCall, IsBoundFormed, class_at, parameter_count};
-ghost use Rattle.dart_type.specs.Testing.{IsSupertype, HasSuperclass, HasFunction};
+ghost use Rattle.type_tests.specs.Testing.{IsSupertype, HasSuperclass, HasFunction};
 ghost use Rattle.dart_ir.specs.declared.class.ClassInfo.{ClassInfo};
 
 use dart_ir::class::{ClassInfo, Classes};

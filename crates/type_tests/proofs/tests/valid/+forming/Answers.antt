@@ -2,8 +2,8 @@ use Rattle.std.proofs.Common.{◌≡◌, rules, ◌∙◌, length, subst as tran
 use Rattle.dart_ir.specs.Ty.{tys}
 use Rattle.dart_ir.specs.Classes.{AreFormed}
 use Rattle.dart_ir.proofs.View.{ty_class}
-use Rattle.dart_type.proofs.Tested.{count_tys, formed_step, formed_end, named_step, named_end}
-use Rattle.dart_type.proofs.tests.valid.+forming.Goals as goal
+use Rattle.type_tests.proofs.Tested.{count_tys, formed_step, formed_end, named_step, named_end}
+use Rattle.type_tests.proofs.tests.valid.+forming.Goals as goal
 
 pub are_formed-loop-t-preserved : goal.are_formed-loop-t-preserved
 are_formed-loop-t-preserved t c = λ rest.

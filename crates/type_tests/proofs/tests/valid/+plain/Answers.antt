@@ -1,5 +1,5 @@
-use Rattle.dart_type.proofs.Tested.{plain_step, plain_end}
-use Rattle.dart_type.proofs.tests.valid.+plain.Goals as goal
+use Rattle.type_tests.proofs.Tested.{plain_step, plain_end}
+use Rattle.type_tests.proofs.tests.valid.+plain.Goals as goal
 
 pub are_plain-loop-t-preserved : goal.are_plain-loop-t-preserved
 are_plain-loop-t-preserved t c = λ rest. plain_step c.args.ts.now c.loop-t.t-index c.t-item.result c.loop-t-test.true c.t-item.is (c.is_plain.ensures c.if-not-is_plain.false) c.loop-t.invariant rest

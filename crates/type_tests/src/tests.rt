@@ -4,7 +4,6 @@ ghost use Rattle.dart_ir.specs.Classes.{IsValid};
 mod table;
 mod valid;
 
-use crate::subtype::{assignable, is_subtype, more_specific};
 use crate::tests::table::{
     CALLER, FIRST_FREE, FUNCTION, GROWING, GROWING_BASE, INT, ITERABLE, LIST, NUM, OBJECT, STRING,
     SUB_CALLER, add, extend, function, ints, naming, of, pair, plain, prelude, taking,
@@ -12,6 +11,7 @@ use crate::tests::table::{
 use crate::tests::valid::{is_formed, is_valid};
 use dart_ir::class::Classes;
 use dart_ir::types::{TypeRef, Types};
+use dart_type::subtype::{assignable, is_subtype, more_specific};
 use std::alloc::{AllocError, Global};
 use std::process::Abort;
 use std::test::Fail;
