@@ -195,7 +195,7 @@ after_same (went forms q) = refl
 after_same (refused why) = refl
 
 pub count_kept : (r : cl.Around) (xs : List u.Member) (q : State) → cl.value_count (around r) (map bare_member xs) (k.state q) ≡ cl.value_count r xs q
-count_kept r xs q = ap cl.variables_after (all_values_goes r xs (record q { variables = 0 })) ∙ after_same (cl.all_values r xs (record q { variables = 0 }))
+count_kept r xs q = ap cl.variables_after (all_values_goes r xs (cl.blank q)) ∙ after_same (cl.all_values r xs (cl.blank q))
 
 -- ---- constructors
 

@@ -145,9 +145,23 @@ abbrev pub variables_after : Went (List Core) → ℕ
 variables_after (went forms st) = st.variables
 variables_after (refused why) = 0
 
--- how many variables the initial values of a class number
+-- what is in scope there, and nothing made
+abbrev pub blank : State → State
+blank st = record st {
+  scopes = [];
+  targets = [];
+  variables = 0;
+  declarations = 0;
+  sites = [];
+  literals = [];
+  functions = [];
+  statics = [];
+  has_constants = false;
+}
+
+-- how many variables the initial values of a class number, where nothing is made
 abbrev pub value_count : Around → List u.Member → State → ℕ
-value_count around members st = variables_after (all_values around members (record st { variables = 0 }))
+value_count around members st = variables_after (all_values around members (blank st))
 
 abbrev pub this_or : Option ThisDot → Place → Place
 this_or None place = place
