@@ -1,0 +1,10 @@
+pub mod Rest
+pub mod Trees
+pub mod Items
+pub mod Fields
+pub mod Walking
+pub mod Operators
+pub mod Constructed
+pub mod Formal
+pub mod Supers
+pub mod Circular
