@@ -5,6 +5,4 @@ pub mod fault;
 pub mod graph;
 pub mod program;
 mod reach;
-#[cfg(test)]
-mod tests;
 mod verdict;

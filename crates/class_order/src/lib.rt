@@ -4,6 +4,4 @@
 pub mod header;
 pub mod order;
 pub mod rows;
-#[cfg(test)]
-mod tests;
 mod walk;

@@ -5,5 +5,3 @@ mod bound;
 pub mod build;
 mod first;
 mod large;
-#[cfg(test)]
-mod tests;

@@ -11,4 +11,3 @@ pub mod Instanced
 pub mod Mixed
 pub mod Membered
 pub mod Tabled
-pub mod Tested

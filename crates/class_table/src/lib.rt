@@ -9,5 +9,3 @@ pub mod number;
 pub mod renumber;
 pub mod row;
 pub mod table;
-#[cfg(test)]
-mod tests;
