@@ -54,12 +54,12 @@ module _ {Rel : Meaning → Meaning → Type 0} (k : Logic Rel) where
   falls_rel s at true d d' q = q
   falls_rel s at false d d' q = throw_new_rel k s.known at FallThroughError Null
 
-  falls_to_rel : (s : Setting) (at : Place) (b : Bool) (xs xs' : List Branch) → Branches xs xs' → (d d' : Meaning) → Rel d d' →
+  pub falls_to_rel : (s : Setting) (at : Place) (b : Bool) (xs xs' : List Branch) → Branches xs xs' → (d d' : Meaning) → Rel d d' →
       Rel (falls_to s at b xs d) (falls_to s at b xs' d')
   falls_to_rel s at b _ _ no_branches d d' q = k.stays (answer Null)
   falls_to_rel s at b _ _ (branch_more u c e e' bs bs' p r) d d' q = falls_rel s at b d d' q
 
-  run_cases_rel : (s : Setting) (at : Place) (xs xs' : List Branch) → Branches xs xs' → Rel (run_cases s at xs) (run_cases s at xs')
+  pub run_cases_rel : (s : Setting) (at : Place) (xs xs' : List Branch) → Branches xs xs' → Rel (run_cases s at xs) (run_cases s at xs')
   run_cases_rel s at _ _ no_branches = k.stays (answer Null)
   run_cases_rel s at _ _ (branch_more u b d d' bs bs' q r) =
       answers k (λ _. falls_to s at b bs (run_cases s at bs)) (λ _. falls_to s at b bs' (run_cases s at bs'))
@@ -89,7 +89,7 @@ module _ {Rel : Meaning → Meaning → Type 0} (k : Logic Rel) where
   cases_within_rel (suc m) s at n all all' q i =
       after_cases_rel n _ _ (cases_within_rel m s at n all all' q) _ _ (run_cases_rel s at _ _ (drop_rel i all all' q))
 
-  from_case_rel : (s : Setting) (at : Place) (n : ℕ) (all all' : List Branch) → Branches all all' →
+  pub from_case_rel : (s : Setting) (at : Place) (n : ℕ) (all all' : List Branch) → Branches all all' →
       (i : ℕ) → Rel (from_case s at n all i) (from_case s at n all' i)
   from_case_rel s at n all all' q i =
       k.reads (λ x st. cases_within (suc x.left) s at n all i st) (λ x st. cases_within (suc x.left) s at n all' i st)

@@ -171,7 +171,7 @@ module _ {Rel : Meaning → Meaning → Type 0} (k : Logic Rel) where
       tried_rel (c.malformed form) u here here' q further further' r =
           l.answers k (λ _. further) (λ _. further') (λ _. r) (eval form one) (eval form two) (eval_rel form)
 
-      branches_rel : (cases : Cases ℕ) → Branches k (branches cases one) (branches cases two)
+      pub branches_rel : (cases : Cases ℕ) → Branches k (branches cases one) (branches cases two)
       branches_rel c.no_cases = no_branches
       branches_rel (c.case_more (c.case value body) more) =
           branch_more value (has_no_forms (form_of body)) (eval body one) (eval body two) _ _ (eval_rel body) (branches_rel more)

@@ -212,10 +212,10 @@ switches_unroll k s how depth at n cases i st =
 -- ---- noSuchMethod
 
 -- the units left
-abbrev room : State → ℕ
+abbrev pub room : State → ℕ
 room st = st.heap.limit - st.heap.used
 
-abbrev RoomLess : ℕ → Outcome → Type 0
+abbrev pub RoomLess : ℕ → Outcome → Type 0
 RoomLess n (ends (answer v) st) = room st < n
 RoomLess n (ends (jumps w m) st) = Unit {0}
 RoomLess n (ends (returns v) st) = Unit {0}
@@ -223,7 +223,7 @@ RoomLess n (ends (throws v place) st) = Unit {0}
 RoomLess n (ends (ended e) st) = Unit {0}
 
 -- an answer leaves fewer units
-abbrev Falls : Meaning → Type 0
+abbrev pub Falls : Meaning → Type 0
 Falls d = (st : State) → RoomLess (room st) (d st)
 
 room_below : (n m : ℕ) (o : Outcome) → m < n → RoomLess m o → RoomLess n o
@@ -273,7 +273,7 @@ module _ (s : Setting) where
   names_fall : (g : Given) → Falls (names_list s g)
   names_fall g st = answers_fall (λ vs. add (list_of vs)) list_falls (map (name_string s) g.names) (strings_fall g.names) [] st
 
-  invocation_falls : (role : Role) (name : ℕ) (g : Given) → Falls (invocation s role name g)
+  pub invocation_falls : (role : Role) (name : ℕ) (g : Given) → Falls (invocation s role name g)
   invocation_falls role name g st =
       answers_fall (λ vs. add (invocation_object s role vs)) (λ vs. add_falls (invocation_object s role vs) (omega arith))
       (invocation_parts s role name g) (

@@ -85,3 +85,12 @@ mutual
   none_left_of a d (c.labelled n body) place st h = none_left a d body st h
   none_left_of a d (c.loop n xs condition update body) place st h = form_loop_stops a d n xs condition update body st h
   none_left_of a d form place st h = form_enters_not place form (world_in a d) st refl h
+
+-- the statement within has no labels
+mutual
+  pub within_bare : (x : Core ℕ) → labels (within x) ≡ []
+  within_bare (c.at place form) = within_bare_of form place
+
+  within_bare_of : (x : Form ℕ) (place : Place) → labels (within_form x place) ≡ []
+  within_bare_of (c.labelled n body) place = within_bare body
+  within_bare_of form place = refl

@@ -10,3 +10,4 @@ pub mod Labels
 pub mod Quick
 pub mod Natives
 pub mod Mute
+pub mod Types

@@ -8,6 +8,7 @@ use Rattle.dart_ir.specs.Ty.{Ty, ty}
 use Rattle.core_program.specs.Core as c
 use Rattle.core_program.specs.View as v
 use Rattle.core_program.specs.Program.{Parameter}
+use Rattle.core_program.specs.declared.form.Case.{Case}
 use Rattle.core_program.specs.declared.form.Core.{Core}
 use Rattle.core_program.specs.declared.form.Handler.{Handler}
 use Rattle.core_program.specs.declared.form.Form.TheViews.{out-Attempt}
@@ -22,6 +23,7 @@ use Rattle.evaluation.specs.Checks.{passes, judged, lets_pass, reaction}
 use Rattle.evaluation.proofs.Logic as l
 use Rattle.evaluation.proofs.Chapters as p
 use Rattle.evaluation.proofs.Calls as calls
+use Rattle.evaluation.proofs.Cases as switches
 use Rattle.evaluation.proofs.Forms as forms
 use Rattle.evaluation.proofs.Kept.{Kept, Keeps, kept_then, kept_logic, kept_ends, kept_site, front, before}
 use Rattle.machine_frame.specs.declared.around.Around.{Around}
@@ -33,7 +35,7 @@ use Rattle.machine_frame.specs.declared.run.Frame.TheVariants as f
 use Rattle.machine_frame.specs.Outside.{checking_of, setting_of, world_in}
 use Rattle.machine_lookup.specs.Rows.{last_of}
 use Rattle.machine_frame.specs.Labels.{labels, labelled_all}
-use Rattle.machine_frame.specs.Frames.{Below, below, forms_of, loop_of, next_turn, tested as tested_by, updated, done, joins, completed, thrown_of, given_of, activation_of, resumed, resume_from, resume, mute}
+use Rattle.machine_frame.specs.Frames.{Below, below, forms_of, loop_of, next_turn, tested as tested_by, updated, done, joins, completed, thrown_of, given_of, activation_of, branches_of, case_from, case_falls, resumed, resume_from, resume, mute}
 
 mute_front : (e : Event) (o : Outcome) → mute (front e o) ≡ mute o
 mute_front e (ends c st) = refl
@@ -121,6 +123,9 @@ module _ (a : Around) (d : ℕ) where
   labels_keep (n ∷ ns) y =
       p.labelled_rel kept_logic n (λ st. labelled_all ns (ends y st)) (λ st. labelled_all ns (ends y st)) (labels_keep ns y)
 
+  branches_keep : (xs : List Case) → switches.Branches kept_logic (branches_of (world_in a d) xs) (branches_of (world_in a d) xs)
+  branches_keep xs = forms.branches_rel kept_logic S R R C C I I sites kept_calls kept_inits (c.cases (map v.case xs))
+
   resumed_keeps : (b : Below) (frame : Frame) → Keeps (resumed (world_in a d) b frame)
   resumed_keeps b (f.Rest xs) y =
       going_on _ (l.in_order_rel kept_logic (evals false (forms_of xs.now) (world_in a d)) (evals false (forms_of xs.now) (world_in a d)) (rows false (forms_of xs.now))) y
@@ -147,6 +152,17 @@ module _ (a : Around) (d : ℕ) where
   resumed_keeps b (f.Labelled one) y = labels_keep (labels (v.core one.now)) y
   resumed_keeps b (f.Is t) y = going_on _ (p.is_type_rel kept_logic S (ty t.now)) y
   resumed_keeps b (f.As at t) y = going_on _ (p.as_type_rel kept_logic S at (ty t.now)) y
+  resumed_keeps b (f.Switch x) y =
+      going_on _ (switches.switch_rel kept_logic S x.at x.target (branches_of (world_in a d) x.cases.now) (branches_of (world_in a d) x.cases.now) (branches_keep x.cases.now)) y
+  resumed_keeps b (f.Case x is_empty behind) y =
+      let w = world_in a d in
+      let all = branches_of w x.cases.now in
+      let rest = branches_of w behind.now in
+      let falls = case_falls w x is_empty behind.now in
+      switches.after_cases_rel kept_logic x.target (case_from w x) (case_from w x) (switches.from_case_rel kept_logic S x.at x.target all all (branches_keep x.cases.now))
+      (λ st. on_answer (λ _. falls) (ends y st)) (λ st. on_answer (λ _. falls) (ends y st))
+      (going_on (λ _. falls) (λ _. switches.falls_to_rel kept_logic S x.at is_empty rest rest (branches_keep behind.now)
+      (s.run_cases S x.at rest) (s.run_cases S x.at rest) (switches.run_cases_rel kept_logic S x.at rest rest (branches_keep behind.now))) y)
   resumed_keeps b (f.Refused attempt rest value place) y =
       let w = world_in a d in
       let further = s.handled S (clauses (c.handlers (map v.handler rest.now)) w) value place in
@@ -169,10 +185,10 @@ module _ (a : Around) (d : ℕ) where
       going_on _ (λ u. calls.apply_rel kept_logic S R R C C I I sites kept_calls kept_inits at u (given_of passed b.operands)) y
   resumed_keeps b (f.Answering x) y = going_on _ (λ _. kept_ends (answer x)) y
   resumed_keeps b (f.Caller at is_block n base depth body) y =
-      l.leaving_rel kept_logic at (λ st. returned is_block (activation_of body (drop base b.under)) (ends y st)) (λ st. returned is_block (activation_of body (drop base b.under)) (ends y st))
-      (forms.returned_rel kept_logic S R R C C I I sites kept_calls kept_inits is_block (activation_of body (drop base b.under)) (λ st. ends y st) (λ st. ends y st) (kept_ends y))
+      l.leaving_rel kept_logic at (λ st. returned is_block (activation_of body (drop base b.under) b.types) (ends y st)) (λ st. returned is_block (activation_of body (drop base b.under) b.types) (ends y st))
+      (forms.returned_rel kept_logic S R R C C I I sites kept_calls kept_inits is_block (activation_of body (drop base b.under) b.types) (λ st. ends y st) (λ st. ends y st) (kept_ends y))
   resumed_keeps b (f.Restoring base depth body) y =
-      forms.returned_rel kept_logic S R R C C I I sites kept_calls kept_inits false (activation_of body (drop base b.under)) (λ st. ends y st) (λ st. ends y st) (kept_ends y)
+      forms.returned_rel kept_logic S R R C C I I sites kept_calls kept_inits false (activation_of body (drop base b.under) b.types) (λ st. ends y st) (λ st. ends y st) (kept_ends y)
   resumed_keeps b (f.Settling at x) y =
       l.leaving_rel kept_logic at (λ st. settled x (ends y st)) (λ st. settled x (ends y st)) (p.settled_rel kept_logic x (λ st. ends y st) (λ st. ends y st) (kept_ends y))
 

@@ -1,22 +1,28 @@
--- Turns of a loop, and calls of a value.
-use Rattle.std.proofs.Common.{◌≡◌, ◌≢◌, ℕ, ◌-◌, List, true, refl, ◌∙◌}
+-- Turns of a loop, cases of a switch, and calls that come again.
+use Rattle.std.proofs.Common.{◌≡◌, ◌≢◌, ℕ, ◌-◌, List, map, drop, Option, true, refl, ◌∙◌}
 use Rattle.dart_ir.specs.declared.value.Value.TheVariants.{Null, Bool as Truth}
 use Rattle.core_program.specs.View as v
 use Rattle.core_program.specs.Core.{Part}
+use Rattle.core_program.specs.Core as c
 use Rattle.evaluation.specs.State.{State, ended, out_of_steps, Outcome, ends, Given}
 use Rattle.evaluation.specs.Sequence.{on_answer, branch}
 use Rattle.evaluation.specs.Evaluation.{part}
-use Rattle.evaluation.specs.Statements.{done, body_of_turn, loop}
+use Rattle.evaluation.specs.Statements.{done, body_of_turn, loop, run_cases, after_cases}
+use Rattle.evaluation.specs.Arguments.{alone}
+use Rattle.evaluation.specs.Classes.{member}
 use Rattle.evaluation.specs.Checks.{lets_pass}
 use Rattle.dart_base.specs.declared.place.Place.{Place}
+use Rattle.dart_ir.specs.declared.class.Role.{Role}
+use Rattle.dart_ir.specs.declared.class.Role.TheVariants.{Method}
 use Rattle.dart_ir.specs.declared.value.Value.{Value}
-use Rattle.evaluation.specs.Invocation.{apply, applied, callable}
+use Rattle.evaluation.specs.Invocation.{apply, applied, callable, invocation, told, missing_from}
 use Rattle.evaluation.proofs.Loops.{loops_unroll}
-use Rattle.evaluation.proofs.Rounds.{calls_unroll}
+use Rattle.evaluation.proofs.Rounds.{calls_unroll, switches_unroll, missing_unrolls}
 use Rattle.machine_frame.specs.declared.around.Around.{Around}
 use Rattle.machine_frame.specs.declared.run.Turn.{Turn}
+use Rattle.machine_frame.specs.declared.run.Switching.{Switching}
 use Rattle.machine_frame.specs.Outside.{checking_of, setting_of, world_in}
-use Rattle.machine_frame.specs.Frames.{loop_of, tested}
+use Rattle.machine_frame.specs.Frames.{loop_of, tested, branches_of, case_from}
 use Rattle.machine_frame.proofs.Steps.{enters, enters_not}
 
 module _ (a : Around) (d : ℕ) (t : Turn) (st : State) where
@@ -34,6 +40,16 @@ module _ (a : Around) (d : ℕ) (t : Turn) (st : State) where
 pub apply_begins : (a : Around) (d : ℕ) (at : Place) (v : Value) (g : Given) (st : State)
     → apply (world_in a d) at v g st ≡ applied (world_in a d) at v g (λ u. apply (world_in a d) at u g) (callable st.heap v) st
 apply_begins a d at v g st = calls_unroll (checking_of a) (setting_of a) lets_pass d at v g st
+
+pub case_begins : (a : Around) (d : ℕ) (x : Switching) (i : ℕ) (st : State)
+    → case_from (world_in a d) x i st ≡ after_cases x.target (case_from (world_in a d) x) (run_cases (setting_of a) x.at (drop i (branches_of (world_in a d) x.cases.now)) st)
+case_begins a d x i st = switches_unroll (checking_of a) (setting_of a) lets_pass d x.at x.target (c.cases (map v.case x.cases.now)) i st
+
+pub missing_begins : (a : Around) (d : ℕ) (at : Place) (class : Option ℕ) (role : Role) (name : ℕ) (this : Value) (g : Given) (st : State)
+    → missing_from (world_in a d) at class role name this g st
+    ≡ on_answer (told (world_in a d) at (member (setting_of a).program class (setting_of a).known.no_such_method Method) this
+    (λ i. missing_from (world_in a d) at class Method (setting_of a).known.no_such_method this (alone i))) (invocation (setting_of a) role name g st)
+missing_begins a d at class role name this g st = missing_unrolls (checking_of a) (setting_of a) lets_pass d at class role name this g st
 
 pub form_loop_stops : (a : Around) (d n : ℕ) (xs : List ℕ) (condition update body : Part ℕ) (st : State) → st.left ≡ 0
     → loop (setting_of a) n xs (part condition (world_in a d) (Truth true)) (part update (world_in a d) Null) (part body (world_in a d) Null) st

@@ -1,12 +1,15 @@
 -- What the frames of the machine stand for.
-use Rattle.std.specs.Prelude.{◌≡◌, Bool, true, false, Option, Some, None, ℕ, suc, ◌+◌, ◌-◌, ◌*◌, List, [], ◌∷◌, ◌++◌, length, map, reverse, take, drop}
+use Rattle.std.specs.Prelude.{◌≡◌, Bool, true, false, Option, Some, None, ℕ, suc, ◌+◌, ◌-◌, ◌*◌, List, [], ◌∷◌, ◌++◌, length, map, reverse, take, drop, slice_get}
+use Rattle.std.specs.Global.{Vec}
 use Rattle.dart_base.specs.declared.name.Name.{Name}
 use Rattle.dart_base.specs.declared.place.Place.{Place}
 use Rattle.dart_ir.specs.declared.ending.Line.{Line}
 use Rattle.dart_ir.specs.declared.value.Value.{Value}
 use Rattle.dart_ir.specs.declared.value.Value.TheVariants.{Null, Bool as Truth, At}
-use Rattle.dart_ir.specs.Ty.{ty}
+use Rattle.dart_ir.specs.declared.types.TypeRef.{TypeRef}
+use Rattle.dart_ir.specs.Ty.{Ty, ty}
 use Rattle.dart_store.specs.Heap.{Heap, with_field_at}
+use Rattle.core_program.specs.declared.form.Case.{Case}
 use Rattle.core_program.specs.declared.form.Core.{Core}
 use Rattle.core_program.specs.declared.form.Handler.{Handler}
 use Rattle.core_program.specs.declared.form.Form.TheViews.{out-Attempt}
@@ -25,7 +28,7 @@ use Rattle.evaluation.specs.Values.{in_prelude}
 use Rattle.evaluation.specs.Creation.{new, new_list}
 use Rattle.evaluation.specs.Types.{is_type, as_type}
 use Rattle.evaluation.specs.Statements as s
-use Rattle.evaluation.specs.Evaluation.{eval, evals, part, clauses, unary, binary, row, binding, returned}
+use Rattle.evaluation.specs.Evaluation.{eval, evals, part, clauses, branches, unary, binary, row, binding, returned}
 use Rattle.machine_frame.specs.declared.around.Around.{Around}
 use Rattle.machine_frame.specs.declared.run.Limit.{Limit}
 use Rattle.machine_frame.specs.declared.run.Limit.TheVariants as limit
@@ -36,6 +39,7 @@ use Rattle.machine_frame.specs.declared.run.Body.{Body}
 use Rattle.machine_frame.specs.declared.run.Passed.{Passed}
 use Rattle.machine_frame.specs.declared.run.Called.{Called}
 use Rattle.machine_frame.specs.declared.run.Turn.{Turn}
+use Rattle.machine_frame.specs.declared.run.Switching.{Switching}
 use Rattle.machine_frame.specs.declared.run.Task.{Task}
 use Rattle.machine_frame.specs.declared.run.Task.TheVariants as task
 use Rattle.machine_frame.specs.declared.run.Frame.{Frame}
@@ -58,25 +62,42 @@ abbrev pub thrown_of : Option Caught → Option Thrown
 thrown_of None = None
 thrown_of (Some c) = Some (record { value = c.value; place = c.place })
 
-abbrev pub activation_of : Body → List Value → Activation
-activation_of b slots = record {
+-- the type arguments of a body: where it has its own, the last of these
+abbrev pub given_types : Option (Vec TypeRef) → List Ty
+given_types None = []
+given_types (Some ts) = map ty ts.items
+
+abbrev pub types_of : Bool → List (Vec TypeRef) → List Ty
+types_of true all = given_types (slice_get all (length all - 1))
+types_of false all = []
+
+-- the type arguments of the bodies below it
+abbrev pub types_under : Bool → List (Vec TypeRef) → List (Vec TypeRef)
+types_under true all = but_last 1 all
+types_under false all = all
+
+abbrev pub activation_of : Body → List Value → List (Vec TypeRef) → Activation
+activation_of b slots types = record {
   source = source_of b.source;
   owner = b.owner;
   slots = slots;
   this = b.this;
   closure = b.closure;
-  types = [];
+  types = types_of b.has_types types;
   caught = thrown_of b.caught;
 }
 
+abbrev pub callee_with : Called → List Ty → Callee
+callee_with c types = record { this = c.this; owner = c.owner; closure = c.closure; types = types }
+
 abbrev pub callee_of : Called → Callee
-callee_of c = record { this = c.this; owner = c.owner; closure = c.closure; types = [] }
+callee_of c = callee_with c []
 
 -- the state that clauses see, with no event
 abbrev pub seen : Run → State
 seen r = record {
   left = r.left;
-  activation = activation_of r.body (drop r.base r.slots.items);
+  activation = activation_of r.body (drop r.base r.slots.items) r.types.items;
   heap = r.store;
   ports = [];
   output = r.output.items;
@@ -89,14 +110,21 @@ given_of g operands = given (v.names g.names.now) (past g.skip (last_of g.count 
 
 -- ---- frames
 
--- what lies below the frame at hand: how deep calls may nest, the slots of the callers, and what waits for the end of its row
+-- what lies below the frame at hand: how deep calls may nest, the slots and the type arguments of the callers, and what waits for
+-- the end of its row
 pub record Below : Type 0 where
   pub depth : ℕ
   pub under : List Value
   pub operands : List Value
+  pub types : List (Vec TypeRef)
 
 abbrev pub below_of : Run → Below
-below_of r = record { depth = r.depth; under = take r.base r.slots.items; operands = r.operands.items }
+below_of r = record {
+  depth = r.depth;
+  under = take r.base r.slots.items;
+  operands = r.operands.items;
+  types = types_under r.body.has_types r.types.items;
+}
 
 abbrev pub forms_of : List Core → c.Cores ℕ
 forms_of forms = c.cores (map v.core forms)
@@ -119,6 +147,22 @@ abbrev pub tested : World → Turn → Value → Meaning
 tested w t x =
     branch x (s.body_of_turn w.setting t.target t.copies.now (part (v.part t.update.now) w Null) (part (v.part t.body.now) w Null) (loop_of w t))
     s.done
+
+-- cases as what they do
+abbrev pub branches_of : World → List Case → List s.Branch
+branches_of w cases = branches (c.cases (map v.case cases)) w
+
+-- the case of the number, and what follows it
+abbrev pub case_from : World → Switching → ℕ → Meaning
+case_from w x = s.from_case w.setting x.at x.target (branches_of w x.cases.now)
+
+-- cases of a switch, the first of which is entered
+abbrev pub cases_run : World → Switching → List Case → Meaning
+cases_run w x cases = s.run_cases w.setting x.at (branches_of w cases)
+
+-- what follows the statements of a case
+abbrev pub case_falls : World → Switching → Bool → List Case → Meaning
+case_falls w x is_empty behind = s.falls_to w.setting x.at is_empty (branches_of w behind) (cases_run w x behind)
 
 abbrev pub joins : Task → Bool
 joins (task.Row job) = is_join (v.job job)
@@ -170,6 +214,9 @@ resumed w b f.Returning o = on_answer (λ x st. ends (returns x) st) o
 resumed w b (f.Labelled one) o = labelled_all (labels (v.core one.now)) o
 resumed w b (f.Is t) o = on_answer (is_type w.setting (ty t.now)) o
 resumed w b (f.As at t) o = on_answer (as_type w.setting at (ty t.now)) o
+resumed w b (f.Switch x) o = on_answer (s.switch w.setting x.at x.target (branches_of w x.cases.now)) o
+resumed w b (f.Case x is_empty behind) o =
+    s.after_cases x.target (case_from w x) (on_answer (λ _. case_falls w x is_empty behind.now) o)
 resumed w b (f.Refused attempt rest value place) o =
     s.finally (part (v.part (out-Attempt attempt.now).last) w Null)
     (on_answer (λ _. s.handled w.setting (clauses (c.handlers (map v.handler rest.now)) w) value place) o)
@@ -180,8 +227,8 @@ resumed w b (f.Handling last around) o = s.finally (part (v.part last.now) w Nul
 resumed w b (f.Ending x value) o = s.then_ends (completed x value) o
 resumed w b (f.Applying at passed) o = on_answer (λ x. apply w at x (given_of passed b.operands)) o
 resumed w b (f.Answering x) o = on_answer (λ _ st. ends (answer x) st) o
-resumed w b (f.Caller at is_block n base depth body) o = leaving at (returned is_block (activation_of body (drop base b.under)) o)
-resumed w b (f.Restoring base depth body) o = returned false (activation_of body (drop base b.under)) o
+resumed w b (f.Caller at is_block n base depth body) o = leaving at (returned is_block (activation_of body (drop base b.under) b.types) o)
+resumed w b (f.Restoring base depth body) o = returned false (activation_of body (drop base b.under) b.types) o
 resumed w b (f.Settling at d) o = leaving at (settled d o)
 
 -- what lies below a frame
@@ -189,8 +236,9 @@ abbrev pub below : Below → Frame → Below
 below b (f.Row at task names rest n) = record b { operands = but_last n b.operands }
 below b (f.Applying at passed) = record b { operands = but_last passed.count b.operands }
 below b (f.Caller at is_block n base depth body) =
-    record b { depth = depth; under = take base b.under; operands = but_last n b.operands }
-below b (f.Restoring base depth body) = record b { depth = depth; under = take base b.under }
+    record b { depth = depth; under = take base b.under; operands = but_last n b.operands; types = types_under body.has_types b.types }
+below b (f.Restoring base depth body) =
+    record b { depth = depth; under = take base b.under; types = types_under body.has_types b.types }
 below b frame = b
 
 -- what the frames make of it, the topmost first
@@ -206,8 +254,8 @@ resume a b fs o = resume_from a b (reverse fs) o
 abbrev pub outcome_of : World → Control → Value → List Value → Meaning
 outcome_of w (Enter one) x operands st = eval (v.core one.now) w st
 outcome_of w (Leave how) x operands st = ends (completed how x) st
-outcome_of w (Bind function parameters i passed) x operands st =
-    binding w (given_of passed operands) (map p.parameter parameters.now) i (part (v.part function.now.body) w Null) st
+outcome_of w (Bind function parameter rest i passed) x operands st =
+    binding w (given_of passed operands) (p.parameter parameter.now ∷ map p.parameter rest.now) i (part (v.part function.now.body) w Null) st
 
 -- the events aside
 abbrev pub mute : Outcome → Outcome
@@ -238,7 +286,7 @@ does_row a r n meaning = ending_row a r n (meaning (world_in a r.depth) (seen r)
 -- may put others in their place
 abbrev pub weight : Control → ℕ
 weight (Enter one) = 2
-weight (Bind function parameters i passed) = 3
+weight (Bind function parameter rest i passed) = 3
 weight (Leave (exit.Over e)) = 1
 weight (Leave how) = 5
 
@@ -278,4 +326,4 @@ value_or_full (Some x) = answer x
 abbrev pub IsBeside : Run → Run → Type 0
 IsBeside old new = (new.frames.items ≡ old.frames.items) × (take new.base new.slots.items ≡ take old.base old.slots.items) × (new.base ≡ old.base)
     × (new.operands.items ≡ old.operands.items) × (new.body ≡ old.body) × (new.depth ≡ old.depth) × (new.left ≡ old.left)
-    × (new.output.items ≡ old.output.items)
+    × (new.output.items ≡ old.output.items) × (new.types.items ≡ old.types.items)

@@ -1,13 +1,13 @@
 // A run at work: its frames, its stacks and its store.
 #![tactic(auto)]
 
-use core_program::form::{Attempt, Binary, Core, Handler, Job, Part, Unary, Way};
+use core_program::form::{Attempt, Binary, Case, Core, Handler, Job, Part, Unary, Way};
 use core_program::program::{Function, Parameter};
 use dart_base::name::Name;
 use dart_base::place::Place;
 use dart_ir::ending::Line;
 use dart_ir::number::{ClassId, DeclId};
-use dart_ir::types::TypeRef;
+use dart_ir::types::{TypeRef, Types};
 use dart_ir::value::Value;
 use dart_store::store::Store;
 use std::alloc::Global;
@@ -45,6 +45,9 @@ pub struct Body {
     pub owner: u32,
     pub this: Value,
     pub closure: Value,
+    /// Whether the last of the run's type arguments are those of the `new` that it answers; another body answers none, or one
+    /// without type arguments.
+    pub has_types: bool,
     /// What the handler at work has caught.
     pub caught: Option<Caught>,
 }
@@ -74,6 +77,14 @@ pub struct Turn<'a> {
     pub condition: &'a Part,
     pub update: &'a Part,
     pub body: &'a Part,
+}
+
+/// A switch at work: its place, its number as a target, and its cases.
+#[derive(Clone, Copy)]
+pub struct Switching<'a> {
+    pub at: Place,
+    pub target: u32,
+    pub cases: &'a [Case],
 }
 
 /// What is done with the answers of a row of forms.
@@ -111,6 +122,10 @@ pub enum Frame<'a> {
     Is(&'a TypeRef),
     /// The operand's value, where it is of the type or null.
     As(Place, &'a TypeRef),
+    /// A switch whose operand is at work.
+    Switch(Switching<'a>),
+    /// A case whose statements are at work: whether it has none, and the cases behind it.
+    Case(Switching<'a>, bool, &'a [Case]),
     Trying(&'a Attempt),
     /// The type of a handler is malformed, and its form is at work: the handlers behind it, and what was thrown, with its place.
     Refused(&'a Attempt, &'a [Handler], Value, Place),
@@ -145,8 +160,8 @@ pub enum Exit {
 pub enum Control<'a> {
     Enter(&'a Core),
     Leave(Exit),
-    /// The parameters of a function from this on are bound, and then its body is entered.
-    Bind(&'a Function, &'a [Parameter], u32, Passed<'a>),
+    /// A parameter of a function and those behind it are bound, and then its body is entered.
+    Bind(&'a Function, &'a Parameter, &'a [Parameter], u32, Passed<'a>),
 }
 
 /// A run at work.
@@ -158,6 +173,8 @@ pub struct Run<'a> {
     pub slots: Vec<Value>,
     pub base: u32,
     pub operands: Vec<Value>,
+    /// The type arguments of those `new`s that bodies at work answer, where there are any.
+    pub types: Vec<Types>,
     pub body: Body,
     pub answer: Value,
     /// How deep calls may nest from here.

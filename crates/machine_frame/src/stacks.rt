@@ -1,10 +1,13 @@
 // The stacks of a run.
 #![tactic(auto)]
 
-ghost use Rattle.std.specs.Prelude.{◌≡◌, ◌∷◌, ◌++◌, [], IfOk};
+ghost use Rattle.std.specs.Prelude.{◌≡◌, ◌∷◌, ◌++◌, [], map, IfOk};
+ghost use Rattle.dart_ir.specs.Ty.{ty};
+ghost use Rattle.machine_frame.specs.Frames.{types_of, types_under};
 
 use crate::around::Fault;
 use crate::run::{Frame, Run};
+use dart_ir::types::{TypeRef, Types};
 use dart_ir::value::Value;
 
 /// Puts a frame on the others.
@@ -28,5 +31,48 @@ pub fn push_operand(run: &mut Run, value: Value) -> Result<(), Fault>
     match run.operands.push(value) {
         Ok(()) => Ok(()),
         Err(_) => Err(Fault::Memory),
+    }
+}
+
+/// Puts the type arguments of a `new` on the others, where there are any, and says whether there are.
+#[tactic(auto, using(crate::proofs::Types::own_pushed, crate::proofs::Types::under_pushed, crate::proofs::Types::none_given))]
+#[inline(always)]
+pub fn push_types(run: &mut Run, types: Types) -> Result<bool, Fault>
+    ensures own { IfOk result (λ has. types_of has run.new.types.items ≡ map ty types.items) }
+    ensures under { IfOk result (λ has. types_under has run.new.types.items ≡ run.old.types.items) }
+    ensures stays { IfOk result (λ _. run.new ≡ record run.old { types = run.new.types }) }
+{
+    if types.is_empty() {
+        return Ok(false);
+    }
+    match run.types.push(types) {
+        Ok(()) => Ok(true),
+        Err(_) => Err(Fault::Memory),
+    }
+}
+
+/// Takes the type arguments of the body at work off the others, where it has its own.
+#[inline(always)]
+pub fn drop_types(run: &mut Run)
+    ensures under { run.new.types.items ≡ types_under run.old.body.has_types run.old.types.items }
+    ensures stays { run.new ≡ record run.old { types = run.new.types } }
+{
+    if run.body.has_types {
+        let start = run.types.len().saturating_sub(1);
+        run.types.truncate(start);
+    }
+}
+
+/// The type arguments of the body at work: where it has its own, the last of these.
+#[inline(always)]
+pub fn own_types<'b>(has_types: bool, types: &'b [Types]) -> &'b [TypeRef]
+    ensures { map ty result.now ≡ types_of has_types types.now }
+{
+    if !has_types {
+        return &[];
+    }
+    match types.last() {
+        None => &[],
+        Some(last) => last.as_slice(),
     }
 }

@@ -82,6 +82,7 @@ fn enter_init<'a>(
         owner: 0,
         this: Value::Null,
         closure: Value::Null,
+        has_types: false,
         caught: None,
     };
     run.depth -= 1;

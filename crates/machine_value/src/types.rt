@@ -19,6 +19,7 @@ use dart_ir::value::Value;
 use dart_type::instance::{TypeFault, instantiate};
 use machine_frame::around::{Around, Fault};
 use machine_frame::run::{Run, Source};
+use machine_frame::stacks::own_types;
 use machine_lookup::program::{class_at, class_of_function, function_at};
 use std::alloc::Global;
 
@@ -37,11 +38,19 @@ pub fn arguments_here(run: &Run, a: Around) -> Result<Types, Fault>
     };
     match function.kind {
         FunctionKind::Inner => closure_arguments(run),
-        FunctionKind::Factory => Ok(Vec::new(run.alloc)),
+        FunctionKind::Factory => factory_arguments(run),
         FunctionKind::Plain => receiver_arguments(run, a, class),
         FunctionKind::Generative => receiver_arguments(run, a, class),
         FunctionKind::Absent => receiver_arguments(run, a, class),
     }
+}
+
+/// The type arguments of the `new` that the factory at work answers.
+fn factory_arguments(run: &Run) -> Result<Types, Fault>
+    ensures { IfOk result (λ found. map ty found.items ≡ (seen run.now).activation.types) }
+{
+    let types = own_types(run.body.has_types, run.types.as_slice());
+    Ok(try_clone_types(run.alloc, types)?)
 }
 
 /// The type arguments of the closure whose body is at work.
