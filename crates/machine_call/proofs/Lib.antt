@@ -5,3 +5,4 @@ pub mod Equal
 pub mod Objects
 pub mod Operand
 pub mod Pushed
+pub mod Told

@@ -4,7 +4,7 @@ ghost use Rattle.dart_ir.specs.Ty.{ty};
 ghost use Rattle.evaluation.specs.Creation as creation;
 ghost use Rattle.machine_frame.specs.Frames.{going, does_row, room, work, given_of};
 
-use crate::calls::{called, misfit, static_call};
+use crate::calls::{called, called_for, misfit};
 use dart_base::place::Place;
 use dart_ir::kind::ThrowKind;
 use dart_ir::number::ClassId;
@@ -50,7 +50,7 @@ pub fn create<'a>(
     instantiate(run, a, at, class, f, args, passed)
 }
 
-/// A factory is called. One that is given type arguments is not carried out yet.
+/// A factory is called with the type arguments of the `new`; where what is given doesn't fit, an error tells its name.
 fn factory_call<'a>(
     run: &mut Run<'a>,
     a: Around<'a>,
@@ -62,10 +62,11 @@ fn factory_call<'a>(
     ensures meaning { IfOk result (λ c. going a.entry run.new c ≡ does_row a.entry run.old passed.entry.count (λ w. creation.factory_call w at f (map ty types.items) (given_of passed.entry run.old.operands.items))) }
     ensures less { IfOk result (λ c. work run.new c < room run.old + 6) }
 {
-    if types.is_empty() {
-        return static_call(run, a, at, f, passed);
+    let values = past_first(last_of(run.operands.as_slice(), passed.count), passed.skip);
+    if !fits(a.program, f, values, passed.names) {
+        return misfit(run, a, at, f, passed);
     }
-    Err(Fault::NotBuilt)
+    called_for(run, a, at, f, types, passed)
 }
 
 /// An instance whose fields are null, with which the constructor goes on; the answer is the instance.

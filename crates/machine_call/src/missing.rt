@@ -1,16 +1,19 @@
 // noSuchMethod (ECMA-408, 16.17.1 Method Lookup).
 ghost use Rattle.std.specs.Prelude.{pos, ◌≡◌, ◌<◌, ◌+◌, ◌∷◌, [], Some, map, IfOk};
 ghost use Rattle.dart_ir.specs.Ty.{ty, dynamic};
+ghost use Rattle.core_program.specs.ProgramView as p;
 ghost use Rattle.core_program.specs.View as v;
+ghost use Rattle.machine_call.specs.Missing.{missing_alone, told_as, IsNearer};
 ghost use Rattle.evaluation.specs.State.{ends};
 ghost use Rattle.evaluation.specs.Sequence.{on_answers};
 ghost use Rattle.evaluation.specs.Objects.{add};
-ghost use Rattle.evaluation.specs.Arguments.{placed, named_values};
+ghost use Rattle.evaluation.specs.Arguments.{alone, placed, named_values};
 ghost use Rattle.evaluation.specs.Invocation as call;
 ghost use Rattle.machine_frame.specs.Outside.{setting_of};
-ghost use Rattle.machine_frame.specs.Frames.{seen, going, does_row, room, work, given_of, value_or_full, IsBeside};
+ghost use Rattle.machine_frame.specs.Frames.{seen, going, does, does_row, room, work, given_of, value_or_full, IsBeside};
 
 use crate::calls::{last_operand, member_call};
+use core_program::program::CoreProgram;
 use dart_base::name::Name;
 use dart_base::place::Place;
 use dart_ir::class::Role;
@@ -30,8 +33,15 @@ use machine_lookup::row::{cut, last_of, past_first};
 use machine_value::errors::put_name;
 use std::alloc::Global;
 
+/// What comes of a call of `noSuchMethod`.
+pub enum Told<'a> {
+    /// Its body is at work, or the form is left.
+    Goes(Control<'a>),
+    /// It does not take this Invocation alone.
+    Again(Value),
+}
+
 /// noSuchMethod of an object seen as of the class, for a member that isn't there or that what is given doesn't fit.
-#[tactic(auto, using(machine_frame::proofs::Resume::resume_push, machine_frame::proofs::Steps::load_push, machine_frame::proofs::Rows::row_laws, crate::proofs::Alone::alone_laws))]
 pub fn missing_from<'a>(
     run: &mut Run<'a>,
     a: Around<'a>,
@@ -45,24 +55,116 @@ pub fn missing_from<'a>(
     ensures meaning { IfOk result (λ c. going a.entry run.new c ≡ does_row a.entry run.old passed.entry.count (λ w. call.missing_from w at (Some class) role name this (given_of passed.entry run.old.operands.items))) }
     ensures less { IfOk result (λ c. work run.new c < room run.old + 6) }
 {
+    let told = tell(run, a, at, class, role, name, this, passed)?;
+    match told {
+        Told::Goes(control) => Ok(control),
+        Told::Again(one) => tell_again(run, a, at, class, this, one),
+    }
+}
+
+/// noSuchMethod that does not take an Invocation alone is called for in its turn, until the units are used up.
+fn tell_again<'a>(
+    run: &mut Run<'a>,
+    a: Around<'a>,
+    at: Place,
+    class: u32,
+    this: Value,
+    first: Value,
+) -> Result<Control<'a>, Fault>
+    ensures meaning { IfOk result (λ c. going a.entry run.new c ≡ does a.entry run.old (missing_alone a.entry at class this first)) }
+    ensures less { IfOk result (λ c. work run.new c < room run.old + 6) }
+{
+    let mut one = first;
+    loop {
+        let told = tell_alone(run, a, at, class, this, one)?;
+        match told {
+            Told::Goes(control) => return Ok(control),
+            Told::Again(next) => {
+                one = next;
+            }
+        }
+    }
+}
+
+/// noSuchMethod for itself, with an Invocation alone.
+fn tell_alone<'a>(
+    run: &mut Run<'a>,
+    a: Around<'a>,
+    at: Place,
+    class: u32,
+    this: Value,
+    one: Value,
+) -> Result<Told<'a>, Fault>
+    ensures meaning { IfOk result (λ t. told_as a.entry at class this run.new t ≡ does a.entry run.old (missing_alone a.entry at class this one)) }
+    ensures nearer { IfOk result (λ t. IsNearer run.old run.new t) }
+{
+    let passed = last_operand();
+    push_operand(run, one)?;
+    let told = tell(
+        run,
+        a,
+        at,
+        class,
+        Role::Method,
+        a.known.no_such_method.0,
+        this,
+        passed,
+    )?;
+    Ok(told)
+}
+
+/// noSuchMethod is called with the Invocation of a member, where it takes it alone.
+fn tell<'a>(
+    run: &mut Run<'a>,
+    a: Around<'a>,
+    at: Place,
+    class: u32,
+    role: Role,
+    name: u32,
+    this: Value,
+    passed: Passed<'a>,
+) -> Result<Told<'a>, Fault>
+    ensures meaning { IfOk result (λ t. told_as a.entry at class this run.new t ≡ does_row a.entry run.old passed.entry.count (λ w. call.missing_from w at (Some class) role name this (given_of passed.entry run.old.operands.items))) }
+    ensures nearer { IfOk result (λ t. IsNearer run.old run.new t) }
+{
     let made = invocation(run, a, role, name, passed)?;
     cut(&mut run.operands, passed.count);
     let Some(one) = made else {
-        return Ok(Control::Leave(Exit::Over(Limit::OutOfObjects)));
+        return Ok(Told::Goes(Control::Leave(Exit::Over(Limit::OutOfObjects))));
     };
     let Some(m) = member(a.program, class, a.known.no_such_method.0, Role::Method) else {
-        return Ok(answer(run, a, Value::Null));
+        return Ok(Told::Goes(answer(run, a, Value::Null)));
     };
-    push_operand(run, one)?;
-    if !fits(
-        a.program,
-        member_function(a.program, m),
-        last_of(run.operands.as_slice(), 1),
-        &[],
-    ) {
-        return Err(Fault::NotBuilt);
+    if !takes_alone(a.program, m, one) {
+        return Ok(Told::Again(one));
     }
-    member_call(run, a, at, m, this, last_operand())
+    let control = call_alone(run, a, at, m, this, one)?;
+    Ok(Told::Goes(control))
+}
+
+/// Whether a member takes a value alone.
+fn takes_alone(program: &CoreProgram, m: u32, one: Value) -> bool
+    ensures { result ≡ call.member_fits (p.program program.now) m (alone one) }
+{
+    fits(program, member_function(program, m), &[one], &[])
+}
+
+/// A member that was found, on its receiver, with a value alone.
+#[tactic(auto, using(crate::proofs::Alone::alone_laws))]
+fn call_alone<'a>(
+    run: &mut Run<'a>,
+    a: Around<'a>,
+    at: Place,
+    m: u32,
+    this: Value,
+    one: Value,
+) -> Result<Control<'a>, Fault>
+    ensures meaning { IfOk result (λ c. going a.entry run.new c ≡ does a.entry run.old (λ w. call.member_call w at m this (alone one))) }
+    ensures less { IfOk result (λ c. work run.new c < room run.old + 6) }
+{
+    let passed = last_operand();
+    push_operand(run, one)?;
+    member_call(run, a, at, m, this, passed)
 }
 
 /// The Invocation, behind what it holds, in the order of its fields. `None` where the units don't suffice.

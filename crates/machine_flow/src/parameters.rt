@@ -1,5 +1,5 @@
 // Parameters that are bound (ECMA-408, 9.2 Formal Parameters, 16.14.2 Binding Actuals to Formals).
-ghost use Rattle.std.specs.Prelude.{◌≡◌, ◌<◌, ◌+◌, suc, map, IfOk};
+ghost use Rattle.std.specs.Prelude.{◌≡◌, ◌<◌, ◌+◌, ◌∷◌, suc, map, IfOk};
 ghost use Rattle.dart_ir.specs.declared.value.Value.TheVariants.{Null};
 ghost use Rattle.core_program.specs.View as v;
 ghost use Rattle.core_program.specs.ProgramView as p;
@@ -9,7 +9,6 @@ ghost use Rattle.evaluation.specs.Variables.{declare};
 ghost use Rattle.evaluation.specs.Arguments.{value_for};
 ghost use Rattle.machine_frame.specs.Frames.{going, does, room, work, given_of};
 
-use core_program::form::Part;
 use core_program::program::{Function, Parameter};
 use dart_ir::value::Value;
 use machine_frame::around::{Around, Fault};
@@ -19,23 +18,21 @@ use machine_frame::variables::declare;
 use machine_lookup::arguments::value_for;
 use machine_lookup::row::{last_of, past_first};
 
-/// The parameters from this on are bound, each for a step, or the body is entered where all are.
+/// A parameter is bound for a step, and those behind it, and then the body is entered.
 #[tactic(auto, using(machine_frame::proofs::Steps::binding_begins, machine_frame::proofs::Steps::binding_stops))]
 #[inline(always)]
 pub fn bind<'a>(
     run: &mut Run<'a>,
     a: Around<'a>,
     function: &'a Function,
-    parameters: &'a [Parameter],
+    parameter: &'a Parameter,
+    rest: &'a [Parameter],
     index: u32,
     passed: Passed<'a>,
 ) -> Result<Control<'a>, Fault>
-    ensures meaning { IfOk result (λ c. going a.entry run.new c ≡ does a.entry run.old (λ w. binding w (given_of passed.entry run.old.operands.items) (map p.parameter parameters.now) index (part (v.part function.now.body) w Null))) }
+    ensures meaning { IfOk result (λ c. going a.entry run.new c ≡ does a.entry run.old (λ w. binding w (given_of passed.entry run.old.operands.items) (p.parameter parameter.now ∷ map p.parameter rest.now) index (part (v.part function.now.body) w Null))) }
     ensures less { IfOk result (λ c. work run.new c < room run.old + 3) }
 {
-    let Some((parameter, rest)) = parameters.split_first() else {
-        return enter_given(run, a, &function.body);
-    };
     if run.left == 0 {
         return Ok(Control::Leave(Exit::Over(Limit::OutOfSteps)));
     }
@@ -113,19 +110,6 @@ fn bind_rest<'a>(
 {
     match rest.split_first() {
         None => enter_part(run, a, &function.body),
-        Some(_) => Ok(Control::Bind(function, rest, index, passed)),
-    }
-}
-
-/// Enters a body. One that is missing is left before it is come to here.
-#[tactic(auto, using(core_program::proofs::Views::views))]
-#[inline(always)]
-fn enter_given<'a>(run: &mut Run<'a>, a: Around<'a>, body: &'a Part) -> Result<Control<'a>, Fault>
-    ensures meaning { IfOk result (λ c. going a.entry run.new c ≡ does a.entry run.old (λ w. part (v.part body.now) w Null)) }
-    ensures less { IfOk result (λ c. work run.new c < room run.old + 3) }
-{
-    match body {
-        Part::Missing => Err(Fault::NotBuilt),
-        Part::Given(core) => Ok(Control::Enter(core)),
+        Some((next, others)) => Ok(Control::Bind(function, next, others, index, passed)),
     }
 }

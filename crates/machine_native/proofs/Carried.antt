@@ -9,6 +9,7 @@ use Rattle.dart_ir.specs.declared.native.NativeId.{NativeId}
 use Rattle.dart_ir.specs.declared.native.NativeId.TheVariants as id
 use Rattle.dart_ir.specs.declared.value.Value.{Value}
 use Rattle.dart_ir.specs.declared.value.Value.TheVariants.{Null}
+use Rattle.dart_ir.specs.Ty.{Ty}
 use Rattle.dart_store.specs.Heap.{Heap}
 use Rattle.native_base.specs.Plan.{done, full as no_room}
 use Rattle.dart_native.specs.Native as n
@@ -51,14 +52,14 @@ module _ (a : Around) (at : Place) (i : NativeId) (vs : List Value) (st : State)
       → native (setting_of a) at i vs st ≡ ends (ended out_of_steps) (record st { left = 0 })
   plain_stops own e h = native_does a at i vs st own ∙ ap (λ k. taking k after st) (sym e) ∙ steps_are_short extra after st h
 
-module _ (a : Around) (at : Place) (i : NativeId) (vs : List Value) (st : State) where
-  pub called : (x : Answer) (h : Heap) → n.native (read_of a) i [] vs st.heap ≡ done x h
-      → native_call (setting_of a).natives i [] vs (native_answer (setting_of a) at) st ≡ native_answer (setting_of a) at x (record st { heap = h })
+module _ (a : Around) (at : Place) (i : NativeId) (ts : List Ty) (vs : List Value) (st : State) where
+  pub called : (x : Answer) (h : Heap) → n.native (read_of a) i ts vs st.heap ≡ done x h
+      → native_call (setting_of a).natives i ts vs (native_answer (setting_of a) at) st ≡ native_answer (setting_of a) at x (record st { heap = h })
   unfolding native_end
   called x h e = ap (λ o. native_left (native_answer (setting_of a) at) (end_of o) st) e
 
-  pub filled : n.native (read_of a) i [] vs st.heap ≡ no_room
-      → native_call (setting_of a).natives i [] vs (native_answer (setting_of a) at) st ≡ ends (ended out_of_objects) st
+  pub filled : n.native (read_of a) i ts vs st.heap ≡ no_room
+      → native_call (setting_of a).natives i ts vs (native_answer (setting_of a) at) st ≡ ends (ended out_of_objects) st
   unfolding native_end
   filled e = ap (λ o. native_left (native_answer (setting_of a) at) (end_of o) st) e
 

@@ -18,6 +18,7 @@ use dart_store::store::StoreFault;
 use machine_frame::around::{Around, Fault};
 use machine_frame::moves::answer;
 use machine_frame::run::{Control, Exit, Limit, Run};
+use machine_frame::stacks::own_types;
 use machine_lookup::row::{cut, last_of, value_at};
 use machine_value::errors::throw_new;
 use native_number::number::number_native;
@@ -156,14 +157,14 @@ fn native_call<'a>(
     id: NativeId,
     count: u32,
 ) -> Result<Control<'a>, Fault>
-    ensures meaning { IfOk result (λ c. going a.entry run.new c ≡ does_row a.entry run.old count (λ w. spec.native_call w.setting.natives id [] (last_of count run.old.operands.items) (spec.native_answer w.setting at))) }
+    ensures meaning { IfOk result (λ c. going a.entry run.new c ≡ does_row a.entry run.old count (λ w st. spec.native_call w.setting.natives id st.activation.types (last_of count run.old.operands.items) (spec.native_answer w.setting at) st)) }
     ensures less { IfOk result (λ c. work run.new c < room run.old + 6) }
 {
     let read = read_of(a);
     let end = call(
         run.alloc,
         id,
-        &[],
+        own_types(run.body.has_types, run.types.as_slice()),
         last_of(run.operands.as_slice(), count),
         &read,
         &mut run.store,
