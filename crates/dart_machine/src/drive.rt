@@ -39,8 +39,8 @@ pub fn drive<'a>(run: &mut Run<'a>, a: Around<'a>, start: Control<'a>) -> Result
             Control::Enter(form) => {
                 control = enter(run, a, form)?;
             }
-            Control::Bind(function, parameters, index, passed) => {
-                control = bind(run, a, function, parameters, index, passed)?;
+            Control::Bind(function, parameter, rest, index, passed) => {
+                control = bind(run, a, function, parameter, rest, index, passed)?;
             }
             Control::Leave(exit) => match pop_frame(run) {
                 None => return Ok(exit),
@@ -75,11 +75,13 @@ pub fn new_run<'a>(alloc: Global, store: Store, steps: u64, depth: u32) -> Run<'
         slots: Vec::new(alloc),
         base: 0,
         operands: Vec::new(alloc),
+        types: Vec::new(alloc),
         body: Body {
             source: Source::Function(0),
             owner: 0,
             this: Value::Null,
             closure: Value::Null,
+            has_types: false,
             caught: None,
         },
         answer: Value::Null,

@@ -18,9 +18,10 @@ use machine_call::callables::apply;
 use machine_flow::calls::{after_call, after_init, go_back, settle};
 use machine_flow::handlers::{finish_try, leave_handler, leave_refused, leave_try};
 use machine_flow::jumps::{leave_body, leave_label};
-use machine_form::forms::second_operand;
 use machine_form::operands::{finish_binary, finish_unary};
+use machine_form::operations::second_operand;
 use machine_form::rows::next;
+use machine_form::switches::{choose_case, leave_case};
 use machine_frame::around::{Around, Fault};
 use machine_frame::moves::{answer, bind_let, choose, go_on};
 use machine_frame::run::{Body, Control, Exit, Frame, Run, Task};
@@ -73,6 +74,15 @@ fn answered<'a>(run: &mut Run<'a>, a: Around<'a>, frame: Frame<'a>) -> Result<Co
         Frame::Labelled(_) => Ok(Control::Leave(Exit::Answered)),
         Frame::Is(of) => is_type(run, a, of, value),
         Frame::As(at, of) => as_type(run, a, at, of, value),
+        Frame::Switch(one) => choose_case(run, a, one, value),
+        Frame::Case(one, is_empty, behind) => leave_case(
+            run,
+            a,
+            one,
+            is_empty,
+            behind,
+            Exit::Answered,
+        ),
         Frame::Trying(attempt) => finish_try(run, a, &attempt.last, Exit::Answered, value),
         Frame::Refused(attempt, rest, thrown, place) => leave_refused(
             run,
@@ -138,6 +148,8 @@ fn passed_by<'a>(
         Frame::Labelled(target) => Ok(leave_label(run, a, target, exit)),
         Frame::Is(_) => Ok(Control::Leave(exit)),
         Frame::As(_, _) => Ok(Control::Leave(exit)),
+        Frame::Switch(_) => Ok(Control::Leave(exit)),
+        Frame::Case(one, is_empty, behind) => leave_case(run, a, one, is_empty, behind, exit),
         Frame::Trying(attempt) => leave_try(run, a, attempt, exit),
         Frame::Refused(attempt, rest, thrown, place) => leave_refused(
             run, a, attempt, rest, thrown, place, exit,

@@ -11,6 +11,7 @@ use Rattle.dart_ir.specs.Ty.{ty}
 use Rattle.core_program.specs.declared.form.Arguments.{Arguments}
 use Rattle.core_program.specs.declared.form.Attempt.{Attempt}
 use Rattle.core_program.specs.declared.form.Binary.{Binary}
+use Rattle.core_program.specs.declared.form.Case.{Case}
 use Rattle.core_program.specs.declared.form.Core.{Core}
 use Rattle.core_program.specs.declared.form.Form.{Form}
 use Rattle.core_program.specs.declared.form.Form as k
@@ -21,7 +22,7 @@ use Rattle.core_program.specs.declared.form.Part.{Part}
 use Rattle.core_program.specs.declared.form.Unary.{Unary}
 use Rattle.core_program.specs.Core as c
 use Rattle.core_program.specs.View as v
-use Rattle.core_program.proofs.Views.{core_out, view_leaf, view_unary, view_binary, view_row, view_let, view_block, view_if, view_new, view_list, view_is, view_as, view_type_literal, view_loop, view_return, view_try, arguments_out, attempt_out}
+use Rattle.core_program.proofs.Views.{core_out, view_leaf, view_unary, view_binary, view_row, view_let, view_block, view_if, view_new, view_list, view_is, view_as, view_type_literal, view_loop, view_return, view_try, view_switch, arguments_out, attempt_out}
 use Rattle.evaluation.specs.State.{returns, ends}
 use Rattle.evaluation.specs.Sequence.{on_answer, on_answers, in_order, branch}
 use Rattle.evaluation.specs.Parts.{form_of, is_closure}
@@ -32,7 +33,7 @@ use Rattle.evaluation.specs.Evaluation.{eval, evals, act, part, leaf, unary, bef
 use Rattle.machine_frame.specs.declared.around.Around.{Around}
 use Rattle.machine_frame.specs.declared.run.Run.{Run}
 use Rattle.machine_frame.specs.declared.run.Task.TheVariants as task
-use Rattle.machine_frame.specs.Frames.{does, done, joins, forms_of}
+use Rattle.machine_frame.specs.Frames.{does, done, joins, forms_of, branches_of}
 
 module _ (a : Around) (r : Run) (at : Place) (form : Form) where
   -- a form in the place of what it is
@@ -115,6 +116,13 @@ module _ (a : Around) (r : Run) (at : Place) (form : Form) where
       ap (λ (o : Attempt). does a r (act (c.try (v.core (out-Attempt o).body) (c.handlers (map v.handler (out-Attempt o).handlers.items)) (v.part (out-Attempt o).last)) at)) e
       ∙ acts (c.try (v.core (out-Attempt x.value).body) (c.handlers (map v.handler (out-Attempt x.value).handlers.items)) (v.part (out-Attempt x.value).last))
       (ap v.form is ∙ view_try x ∙ attempt_out x.value)
+
+  pub acts_switch : (n : ℕ) (x : Box Core) (ks : Vec Case) (operand : Core) (cases : List Case) → form ≡ k.Switch n x ks → operand ≡ x.value → cases ≡ ks.items
+      → does a r (λ w st. on_answer (s.switch w.setting at n (branches_of w cases)) (eval (v.core operand) w st)) ≡ does a r (act (v.form form) at)
+  acts_switch n x ks operand cases is e h =
+      ap (λ (o : Core). does a r (λ w st. on_answer (s.switch w.setting at n (branches_of w cases)) (eval (v.core o) w st))) e
+      ∙ ap (λ (l : List Case). does a r (act (c.switch n (v.core x.value) (c.cases (map v.case l))) at)) h
+      ∙ acts (c.switch n (v.core x.value) (c.cases (map v.case ks.items))) (ap v.form is ∙ view_switch n x ks)
 
 -- a loop takes no step of its own
 pub loop_goes : (a : Around) (r : Run) (core : Core) (n : ℕ) (xs : Vec ℕ) (p q o : Part) (copies : List ℕ) → (out-Core core).form ≡ k.Loop n xs p q o → copies ≡ xs.items

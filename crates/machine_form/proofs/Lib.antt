@@ -4,3 +4,4 @@ pub mod Functions
 pub mod Pieces
 pub mod Received
 pub mod Rowed
+pub mod Switched

@@ -4,31 +4,32 @@ ghost use Rattle.dart_ir.specs.declared.value.Value.TheVariants.{Null};
 ghost use Rattle.dart_ir.specs.Ty.{ty};
 ghost use Rattle.core_program.specs.Core as form;
 ghost use Rattle.core_program.specs.View as v;
-ghost use Rattle.core_program.specs.declared.form.Form.TheViews.{out-Attempt};
+ghost use Rattle.core_program.specs.declared.form.Form.TheViews.{out-Attempt, out-Core};
 ghost use Rattle.evaluation.specs.State.{State, Outcome, Completion, answer, returns, ends};
 ghost use Rattle.evaluation.specs.Sequence.{on_answer, on_answers, in_order, branch};
-ghost use Rattle.evaluation.specs.Parts.{form_of, is_closure, takes_step};
+ghost use Rattle.evaluation.specs.Parts.{takes_step};
 ghost use Rattle.evaluation.specs.Types.{is_type, as_type};
-ghost use Rattle.evaluation.specs.Evaluation.{eval, evals, act, part, leaf, clauses, unary, before_operand, binary};
+ghost use Rattle.evaluation.specs.Evaluation.{eval, evals, act, part, leaf, clauses};
 ghost use Rattle.evaluation.specs.Variables as x;
 ghost use Rattle.evaluation.specs.Statements as s;
 ghost use Rattle.machine_frame.specs.Outside.{setting_of, world_in};
-ghost use Rattle.machine_frame.specs.Labels.{within};
+ghost use Rattle.machine_frame.specs.Labels.{within, labels};
 ghost use Rattle.machine_frame.specs.Frames.{seen, going, does, room, work, loop_of};
 
-use crate::operands::{finish_binary, finish_unary};
+use crate::operations::{enter_binary, enter_unary};
 use crate::rows::begin_row;
-use core_program::form::{Attempt, Binary, Core, Form, Leaf, Part, Unary};
+use crate::switches::enter_switch;
+use core_program::form::{Attempt, Core, Form, Leaf, Part};
 use dart_base::place::Place;
 use dart_ir::types::TypeRef;
 use dart_ir::value::Value;
 use machine_frame::around::{Around, Fault};
 use machine_frame::moves::{answer, bind_let, choose, go_on, wait};
 use machine_frame::objects::field_of;
-use machine_frame::run::{Control, Exit, Frame, Limit, Run, Task, Turn};
+use machine_frame::run::{Control, Exit, Frame, Limit, Run, Switching, Task, Turn};
 use machine_frame::stacks::push_frame;
-use machine_frame::variables::{declare, read_variable};
-use machine_lookup::program::{is_closure, takes_step};
+use machine_frame::variables::read_variable;
+use machine_lookup::program::takes_step;
 use machine_loop::loops::{begin_turn, take_turn};
 use machine_loop::quick::quick;
 use machine_value::errors::throw_named;
@@ -97,9 +98,10 @@ fn enter_labels<'a>(run: &mut Run<'a>, a: Around<'a>, core: &'a Core) -> Result<
 }
 
 /// The statement within labels.
-#[tactic(auto, using(core_program::proofs::Views::views))]
+#[tactic(auto, using(core_program::proofs::Views::views, machine_frame::proofs::Labels::within_bare))]
 fn within<'a>(core: &'a Core) -> &'a Core
-    ensures { v.core result.now ≡ within (v.core core.now) }
+    ensures within { v.core result.now ≡ within (v.core core.now) }
+    ensures bare { labels (v.core result.now) ≡ [] }
 {
     match &core.form {
         Form::Labelled(_, body) => within(body),
@@ -148,7 +150,8 @@ fn within<'a>(core: &'a Core) -> &'a Core
 /// Enters a statement within labels.
 #[tactic(auto, using(machine_frame::proofs::Steps::form_enters, machine_frame::proofs::Steps::form_free, core_program::proofs::Views::views))]
 fn enter_within<'a>(run: &mut Run<'a>, a: Around<'a>, core: &'a Core) -> Result<Control<'a>, Fault>
-    requires { run.old.left ≢ 0 }
+    requires steps { run.old.left ≢ 0 }
+    requires bare { labels (v.core core.now) ≡ [] }
     ensures meaning { IfOk result (λ c. going a.entry run.new c ≡ does a.entry run.old (eval (v.core core.now))) }
     ensures less { IfOk result (λ c. work run.new c < room run.old) }
 {
@@ -157,6 +160,16 @@ fn enter_within<'a>(run: &mut Run<'a>, a: Around<'a>, core: &'a Core) -> Result<
         let control = go_into(run, a, core.place, &core.form)?;
         return Ok(control);
     }
+    take_turn(run, a, bare_loop(core))
+}
+
+/// The loop that a statement is which takes no step of its own and has no labels.
+#[tactic(auto, using(core_program::proofs::Views::views))]
+fn bare_loop<'a>(core: &'a Core) -> Turn<'a>
+    requires free { takes_step (v.form (out-Core core.now).form) ≡ false }
+    requires bare { labels (v.core core.now) ≡ [] }
+    ensures { v.core core.now ≡ form.at (out-Core core.now).place (form.loop result.target result.copies.now (v.part result.condition.now) (v.part result.update.now) (v.part result.body.now)) }
+{
     match &core.form {
         Form::Loop {
             target,
@@ -164,17 +177,46 @@ fn enter_within<'a>(run: &mut Run<'a>, a: Around<'a>, core: &'a Core) -> Result<
             condition,
             update,
             body,
-        } => {
-            let turn = Turn {
-                target: *target,
-                copies: copies.as_slice(),
-                condition,
-                update,
-                body,
-            };
-            take_turn(run, a, turn)
-        }
-        _ => Err(Fault::NotBuilt),
+        } => Turn {
+            target: *target,
+            copies: copies.as_slice(),
+            condition,
+            update,
+            body,
+        },
+        Form::Leaf(_) => unreachable!(),
+        Form::TypeLiteral(_) => unreachable!(),
+        Form::Unary(_, _) => unreachable!(),
+        Form::Binary(_, _, _) => unreachable!(),
+        Form::Row(_, _) => unreachable!(),
+        Form::Let {
+            var: _,
+            value: _,
+            body: _,
+        } => unreachable!(),
+        Form::Block(_) => unreachable!(),
+        Form::If {
+            condition: _,
+            first: _,
+            second: _,
+        } => unreachable!(),
+        Form::New {
+            class: _,
+            constructor: _,
+            types: _,
+            arguments: _,
+        } => unreachable!(),
+        Form::List { types: _, items: _ } => unreachable!(),
+        Form::Is(_, _) => unreachable!(),
+        Form::As(_, _) => unreachable!(),
+        Form::Return(_) => unreachable!(),
+        Form::Try(_) => unreachable!(),
+        Form::Switch {
+            target: _,
+            value: _,
+            cases: _,
+        } => unreachable!(),
+        Form::Labelled(_, _) => unreachable!(),
     }
 }
 
@@ -187,6 +229,7 @@ fn go_into<'a>(
     at: Place,
     form: &'a Form,
 ) -> Result<Control<'a>, Fault>
+    requires { takes_step (v.form form.now) ≡ true }
     ensures meaning { IfOk result (λ c. going a.entry run.new c ≡ does a.entry run.old (act (v.form form.now) at)) }
     ensures less { IfOk result (λ c. work run.new c < room run.old + 10) }
 {
@@ -235,7 +278,26 @@ fn go_into<'a>(
         Form::TypeLiteral(of) => type_object(run, a, of),
         Form::Is(operand, of) => enter_is(run, a, operand, of),
         Form::As(operand, of) => enter_as(run, a, at, operand, of),
-        _ => Err(Fault::NotBuilt),
+        Form::Switch {
+            target,
+            value,
+            cases,
+        } => {
+            let one = Switching {
+                at,
+                target: *target,
+                cases: cases.as_slice(),
+            };
+            enter_switch(run, a, one, value)
+        }
+        Form::Loop {
+            target: _,
+            copies: _,
+            condition: _,
+            update: _,
+            body: _,
+        } => unreachable!(),
+        Form::Labelled(_, _) => unreachable!(),
     }
 }
 
@@ -294,129 +356,6 @@ fn rethrow<'a>(run: &mut Run<'a>, a: Around<'a>) -> Result<Control<'a>, Fault>
         Some(caught) => {
             run.answer = caught.value;
             Ok(Control::Leave(Exit::Throws(caught.place)))
-        }
-    }
-}
-
-/// A form with one operand.
-#[inline(always)]
-fn enter_unary<'a>(
-    run: &mut Run<'a>,
-    a: Around<'a>,
-    at: Place,
-    one: Unary,
-    operand: &'a Core,
-) -> Result<Control<'a>, Fault>
-    ensures meaning { IfOk result (λ c. going a.entry run.new c ≡ does a.entry run.old (λ w st. on_answer (unary w at (is_closure (form_of (v.core operand.now))) (v.unary one)) (before_operand w (is_closure (form_of (v.core operand.now))) (v.unary one) (eval (v.core operand.now) w) st))) }
-    ensures less { IfOk result (λ c. work run.new c < room run.old + 10) }
-{
-    if is_closure(operand) {
-        return enter_function(run, a, at, one, operand);
-    }
-    match quick(run, a, operand, run.left) {
-        None => wait_operand(run, a, at, false, one, operand),
-        Some((value, left)) => {
-            run.left = left;
-            finish_unary(run, a, at, false, one, value)
-        }
-    }
-}
-
-/// A form whose operand is a function literal or a local function, the variable of which is there first.
-fn enter_function<'a>(
-    run: &mut Run<'a>,
-    a: Around<'a>,
-    at: Place,
-    one: Unary,
-    operand: &'a Core,
-) -> Result<Control<'a>, Fault>
-    ensures meaning { IfOk result (λ c. going a.entry run.new c ≡ does a.entry run.old (λ w st. on_answer (unary w at true (v.unary one)) (before_operand w true (v.unary one) (eval (v.core operand.now) w) st))) }
-    ensures less { IfOk result (λ c. work run.new c < room run.old + 10) }
-{
-    match one {
-        Unary::Var(var) => declare_function(run, a, at, var, operand),
-        Unary::Write(var) => wait_operand(run, a, at, true, Unary::Write(var), operand),
-        Unary::StaticWrite(d) => wait_operand(run, a, at, true, Unary::StaticWrite(d), operand),
-        Unary::FieldWrite(i) => wait_operand(run, a, at, true, Unary::FieldWrite(i), operand),
-        Unary::Get(name) => wait_operand(run, a, at, true, Unary::Get(name), operand),
-        Unary::Check(site) => wait_operand(run, a, at, true, Unary::Check(site), operand),
-        Unary::Throw => wait_operand(run, a, at, true, Unary::Throw, operand),
-    }
-}
-
-/// The variable of a local function, and then the function.
-fn declare_function<'a>(
-    run: &mut Run<'a>,
-    a: Around<'a>,
-    at: Place,
-    var: u32,
-    operand: &'a Core,
-) -> Result<Control<'a>, Fault>
-    ensures meaning { IfOk result (λ c. going a.entry run.new c ≡ does a.entry run.old (λ w st. on_answer (unary w at true (v.unary (Unary.Var var))) (on_answer (λ _. eval (v.core operand.now) w) (x.declare w.setting var Null st)))) }
-    ensures less { IfOk result (λ c. work run.new c < room run.old + 10) }
-{
-    match declare(run, a, var, Value::Null)? {
-        None => Ok(Control::Leave(Exit::Over(Limit::OutOfObjects))),
-        Some(_) => wait_operand(run, a, at, true, Unary::Var(var), operand),
-    }
-}
-
-/// An operand is entered.
-#[inline(always)]
-fn wait_operand<'a>(
-    run: &mut Run<'a>,
-    a: Around<'a>,
-    at: Place,
-    is_function: bool,
-    one: Unary,
-    operand: &'a Core,
-) -> Result<Control<'a>, Fault>
-    ensures meaning { IfOk result (λ c. going a.entry run.new c ≡ does a.entry run.old (λ w st. on_answer (unary w at is_function (v.unary one)) (eval (v.core operand.now) w st))) }
-    ensures less { IfOk result (λ c. work run.new c < room run.old + 6) }
-{
-    wait(run, a, Frame::Operand(at, is_function, one), operand)
-}
-
-/// A form with two operands.
-#[inline(always)]
-fn enter_binary<'a>(
-    run: &mut Run<'a>,
-    a: Around<'a>,
-    at: Place,
-    one: Binary,
-    first: &'a Core,
-    second: &'a Core,
-) -> Result<Control<'a>, Fault>
-    ensures meaning { IfOk result (λ c. going a.entry run.new c ≡ does a.entry run.old (λ w st. on_answer (λ x st. on_answer (λ y. binary w at (v.binary one) x y) (eval (v.core second.now) w st)) (eval (v.core first.now) w st))) }
-    ensures less { IfOk result (λ c. work run.new c < room run.old + 10) }
-{
-    match quick(run, a, first, run.left) {
-        None => wait(run, a, Frame::First(at, one, second), first),
-        Some((value, left)) => {
-            run.left = left;
-            second_operand(run, a, at, one, value, second)
-        }
-    }
-}
-
-/// The second operand, where the first one's answer is there.
-#[inline(always)]
-pub fn second_operand<'a>(
-    run: &mut Run<'a>,
-    a: Around<'a>,
-    at: Place,
-    one: Binary,
-    value: Value,
-    second: &'a Core,
-) -> Result<Control<'a>, Fault>
-    ensures meaning { IfOk result (λ c. going a.entry run.new c ≡ does a.entry run.old (λ w st. on_answer (λ y. binary w at (v.binary one) value y) (eval (v.core second.now) w st))) }
-    ensures less { IfOk result (λ c. work run.new c < room run.old + 10) }
-{
-    match quick(run, a, second, run.left) {
-        None => wait(run, a, Frame::Second(at, one, value), second),
-        Some((other, left)) => {
-            run.left = left;
-            finish_binary(run, a, at, one, value, other)
         }
     }
 }

@@ -3,4 +3,6 @@
 
 pub mod forms;
 pub mod operands;
+pub mod operations;
 pub mod rows;
+pub mod switches;

@@ -66,6 +66,7 @@ fn take_shown(run: Run, end: TurnEnd) -> Turned
         slots: _,
         base: _,
         operands: _,
+        types: _,
         body: _,
         answer: _,
         depth: _,

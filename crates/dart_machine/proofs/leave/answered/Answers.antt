@@ -70,3 +70,9 @@ returns-in-Returning-clause-meaning c = rw c.in-Returning.is refl
 
 pub returns-in-Labelled-clause-meaning : goal.returns-in-Labelled-clause-meaning
 returns-in-Labelled-clause-meaning c = rw (c.in-Labelled.is, labels_answer) refl
+
+pub returns-in-Switch-clause-meaning : goal.returns-in-Switch-clause-meaning
+returns-in-Switch-clause-meaning c = rw c.in-Switch.is c.choose_case.ensures.meaning
+
+pub returns-in-Case-clause-meaning : goal.returns-in-Case-clause-meaning
+returns-in-Case-clause-meaning c = rw c.in-Case.is c.leave_case.ensures.meaning

@@ -70,3 +70,9 @@ returns-in-Row-clause-meaning c = let h = c.requires.left in rw (c.in-Row.is, pa
 
 pub returns-in-Applying-clause-meaning : goal.returns-in-Applying-clause-meaning
 returns-in-Applying-clause-meaning c = let h = c.requires.left in rw (c.in-Applying.is, passes_answer) c.leave_operands-in-Applying.ensures.meaning
+
+pub returns-in-Switch-clause-meaning : goal.returns-in-Switch-clause-meaning
+returns-in-Switch-clause-meaning c = let h = c.requires.left in rw (c.in-Switch.is, passes_answer) refl
+
+pub returns-in-Case-clause-meaning : goal.returns-in-Case-clause-meaning
+returns-in-Case-clause-meaning c = rw c.in-Case.is c.leave_case.ensures.meaning

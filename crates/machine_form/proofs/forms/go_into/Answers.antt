@@ -1,4 +1,4 @@
-use Rattle.machine_form.proofs.Acts.{acts_leaf, acts_unary, acts_binary, acts_row, acts_let, acts_block, acts_if, acts_new, acts_list, acts_return, acts_try, acts_type, acts_is, acts_as}
+use Rattle.machine_form.proofs.Acts.{acts_leaf, acts_unary, acts_binary, acts_row, acts_let, acts_block, acts_if, acts_new, acts_list, acts_return, acts_try, acts_type, acts_is, acts_as, acts_switch}
 use Rattle.machine_form.proofs.Entered.{comes_to}
 use Rattle.machine_form.proofs.forms.go_into.Goals as goal
 
@@ -57,3 +57,7 @@ returns-in-Is-clause-meaning c =
 pub returns-in-As-clause-meaning : goal.returns-in-As-clause-meaning
 returns-in-As-clause-meaning c =
     comes_to c.args.a c.enter_as.new.run c.enter_as.result _ _ (acts_as c.args.a c.args.run.now c.args.at c.args.form.now c.in-As.operand c.in-As.of c.deref-in-As.result.now c.in-As.is c.deref-in-As.ensures) c.enter_as.ensures.meaning
+
+pub returns-in-Switch-clause-meaning : goal.returns-in-Switch-clause-meaning
+returns-in-Switch-clause-meaning c =
+    comes_to c.args.a c.enter_switch.new.run c.enter_switch.result _ _ (acts_switch c.args.a c.args.run.now c.args.at c.args.form.now c.in-Switch.target c.in-Switch.value c.in-Switch.cases c.deref-in-Switch.result.now c.as_slice-in-Switch.result.now c.in-Switch.is c.deref-in-Switch.ensures c.as_slice-in-Switch.ensures.value) c.enter_switch.ensures.meaning

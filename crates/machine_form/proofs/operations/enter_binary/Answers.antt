@@ -2,7 +2,7 @@ use Rattle.evaluation.specs.Sequence.{on_answer}
 use Rattle.evaluation.specs.Evaluation.{eval, binary}
 use Rattle.core_program.specs.View as v
 use Rattle.machine_form.proofs.Entered.{comes_to, answered_after}
-use Rattle.machine_form.proofs.forms.enter_binary.Goals as goal
+use Rattle.machine_form.proofs.operations.enter_binary.Goals as goal
 
 pub returns-in-Some-clause-meaning : goal.returns-in-Some-clause-meaning
 returns-in-Some-clause-meaning c =

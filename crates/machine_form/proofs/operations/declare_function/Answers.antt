@@ -1,7 +1,7 @@
 use Rattle.core_program.specs.View as v
 use Rattle.machine_form.proofs.Entered.{comes_to}
 use Rattle.machine_form.proofs.Functions.{function_goes}
-use Rattle.machine_form.proofs.forms.declare_function.Goals as goal
+use Rattle.machine_form.proofs.operations.declare_function.Goals as goal
 
 pub returns-in-Some-clause-meaning : goal.returns-in-Some-clause-meaning
 returns-in-Some-clause-meaning c =

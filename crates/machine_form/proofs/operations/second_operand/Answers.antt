@@ -2,7 +2,7 @@ use Rattle.evaluation.specs.Sequence.{on_answer}
 use Rattle.evaluation.specs.Evaluation.{binary}
 use Rattle.core_program.specs.View as v
 use Rattle.machine_form.proofs.Entered.{comes_to, answered_after}
-use Rattle.machine_form.proofs.forms.second_operand.Goals as goal
+use Rattle.machine_form.proofs.operations.second_operand.Goals as goal
 
 pub returns-in-Some-clause-meaning : goal.returns-in-Some-clause-meaning
 returns-in-Some-clause-meaning c =

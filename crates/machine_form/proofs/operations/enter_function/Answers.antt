@@ -1,7 +1,7 @@
 use Rattle.core_program.specs.View as v
 use Rattle.machine_form.proofs.Entered.{comes_to}
 use Rattle.machine_form.proofs.Functions.{operand_goes}
-use Rattle.machine_form.proofs.forms.enter_function.Goals as goal
+use Rattle.machine_form.proofs.operations.enter_function.Goals as goal
 
 pub returns-in-Var-clause-meaning : goal.returns-in-Var-clause-meaning
 returns-in-Var-clause-meaning c =

@@ -5,7 +5,7 @@ use Rattle.evaluation.specs.Parts.{form_of, is_closure}
 use Rattle.evaluation.specs.Evaluation.{eval, unary, before_operand}
 use Rattle.machine_frame.specs.Frames.{does}
 use Rattle.machine_form.proofs.Entered.{comes_to, answered_after}
-use Rattle.machine_form.proofs.forms.enter_unary.Goals as goal
+use Rattle.machine_form.proofs.operations.enter_unary.Goals as goal
 
 pub returns-then-is_closure-clause-meaning : goal.returns-then-is_closure-clause-meaning
 returns-then-is_closure-clause-meaning c =
