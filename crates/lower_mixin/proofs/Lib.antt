@@ -1,0 +1,4 @@
+pub mod Rest
+pub mod Built
+pub mod Named
+pub mod Picked
