@@ -1,0 +1,4 @@
+pub mod Members
+pub mod Building
+pub mod Inside
+pub mod Constructors
