@@ -1,0 +1,8 @@
+use Rattle.std.proofs.Common.{◌≡◌, map, drop}
+use Rattle.dart_tree.specs.UnitView as unit_view
+use Rattle.translation.specs.MemberNames as member_names
+use Rattle.lower_program.proofs.member_name.of_members.Given as goal
+
+abbrev pub invariant-loop-one : goal.invariant-loop-one
+invariant-loop-one l = member_names.of_members l.class (map unit_view.member (drop l.one-index l.all.items))
+    ≡ member_names.of_members l.class (map unit_view.member l.all.items)
