@@ -1,5 +1,5 @@
 // The tokens of declarations.
-ghost use Rattle.std.specs.Prelude.{OnOk, map, flat_map};
+ghost use Rattle.std.specs.Prelude.{◌≡◌, IfOk, OnOk, map, flat_map};
 ghost use Rattle.dart_tree.specs.UnitTokens.{tokens_if, bound_tokens, type_parameter_tokens};
 ghost use Rattle.dart_tree.specs.UnitTokens.{type_parameters_tokens, clause_tokens};
 ghost use Rattle.dart_tree.specs.UnitTokens.{superclass_tokens, constructor_name_tokens};
@@ -16,6 +16,7 @@ ghost use Rattle.dart_unparse.specs.Writer.{Appends};
 
 use crate::leaf::Writer;
 use dart_token::sign::Sign;
+use dart_token::token::Token;
 use dart_token::word::Word;
 use dart_tree::declaration::{
     Accessor, AccessorKind, Alias, Bound, Class, ClassKind, Constructor, ConstructorName, Decl,
@@ -23,7 +24,19 @@ use dart_tree::declaration::{
     OperatorName, Superclass, TypeClause, TypeParameter, TypeParameters,
 };
 use dart_tree::identifier::CommaName;
-use std::alloc::AllocError;
+use std::alloc::{AllocError, Global};
+
+/// The tokens of a member of a class in order, with their places.
+pub fn member_tokens(alloc: Global, member: &Member) -> Result<Vec<Token>, AllocError>
+    ensures { IfOk result (λ out. out.items ≡ member_tokens (uv.member member.now)) }
+{
+    let mut writer = Writer {
+        alloc,
+        tokens: Vec::new(alloc),
+    };
+    writer.member(member)?;
+    Ok(writer.tokens)
+}
 
 impl Writer {
     fn maybe_bound(&mut self, bound: &Option<Bound>) -> Result<(), AllocError>

@@ -8,4 +8,5 @@ mod list;
 mod statement;
 mod unit;
 
+pub use declaration::member_tokens;
 pub use unit::tokens;
