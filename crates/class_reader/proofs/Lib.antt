@@ -1,0 +1,12 @@
+pub mod Items
+pub mod Operators
+pub mod Parameters
+pub mod Pushed
+pub mod Counted
+pub mod Tests
+pub mod Units
+pub mod Called
+pub mod Rows
+pub mod Formed
+pub mod Programs
+pub mod Tables
