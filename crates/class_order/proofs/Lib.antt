@@ -1,4 +1,5 @@
 pub mod Lists
+pub mod Next
 pub mod Steps
 pub mod Ordered
 pub mod Placed

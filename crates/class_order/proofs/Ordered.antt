@@ -5,7 +5,7 @@ use Rattle.std.proofs.lemmas.Option.{slice_get_within}
 use Rattle.class_order.specs.declared.header.Header.{Header}
 use Rattle.class_order.specs.declared.walk.Mark.{Mark}
 use Rattle.class_order.specs.declared.walk.Mark.TheVariants.{New, Open, Done}
-use Rattle.class_order.specs.Order.{above, above_in, Leads, names, passes, HasCycle, IsOrder, IsBefore}
+use Rattle.class_order.specs.Order.{above, above_in, Leads, names, passes, HasCycle, AreListed, IsOrder, IsBefore}
 use Rattle.class_order.specs.Walk.{mark_of, IsWalk, IsTouched}
 use Rattle.class_order.proofs.Lists.{done_same, new_done, new_open, fresh}
 
@@ -19,6 +19,7 @@ start hs = record {
     short = λ d i h. absurd (new_done i (sym (fresh (length hs) d) ∙ h));
     found = λ d i h. absurd (new_done i (sym (fresh (length hs) d) ∙ h));
     after = λ i k l. absurd (omega (arith, l));
+    next = λ i l. absurd (omega (arith, l));
   };
   stack = record {
     place = λ j l. absurd (omega (arith, l));
@@ -28,6 +29,7 @@ start hs = record {
     looked = λ j k l. absurd (omega (arith, l));
     within = λ j l. absurd (omega (arith, l));
     link = λ j l. absurd (omega (arith, l));
+    first = λ c l. absurd (omega (arith, l));
   };
 }
 
@@ -44,6 +46,7 @@ module _ (hs : List Header) (ms : List Mark) (ds : List ℕ) (w : IsWalk hs ms d
     once = λ i j l m q. done_same i j (sym (w.finished.place i l) ∙ ap (mark_of ms) q ∙ w.finished.place j m);
     each = λ d l. ends d (mark_of ms d) refl (all d l);
     after = λ i k l h. let r = w.finished.after i k l h in (r.0, r.1, w.finished.found _ r.0 r.2);
+    next = w.finished.next;
   }
 
 pub has_above : (hs : List Header) (d k : ℕ) (o : Option Header) → slice_get hs d ≡ o → k < length (above_in o) → d < length hs
@@ -61,6 +64,13 @@ module _ (hs : List Header) (ds : List ℕ) (o : IsOrder hs ds) where
       let b : IsBefore ds i (get_or (above hs d) k 0) = transport (λ z. IsBefore ds i (get_or (above hs z) k 0)) q (o.after i k m (transport (λ z. k < length (above hs z)) (sym q) l)) in
       let c = leads_before _ e r b.0 (omega (arith, b.1, m)) b.2 in
       (c.0, omega (arith, b.1, c.1), c.2)
+
+  -- each class that a header names is listed
+  pub order_listed : AreListed hs
+  order_listed d k l =
+      let b = o.each d (has_above hs d k (slice_get hs d) refl l) in
+      let c = o.after b.0 k b.1 (transport (λ z. k < length (above hs z)) (sym b.2) l) in
+      transport (λ z. z < length hs) (c.2 ∙ ap (λ z. get_or (above hs z) k 0) b.2) (o.listed c.0 (let m = c.1 in let n = b.1 in omega (arith, m, n)))
 
   -- where there is an order there is no cycle
   pub no_cycle : HasCycle hs → ⊥

@@ -5,7 +5,9 @@ use Rattle.std.proofs.lemmas.Option.{slice_get_read}
 use Rattle.std.proofs.lemmas.List.{length-append, length-set, get_or_append_left, get_or_at}
 use Rattle.class_order.specs.declared.header.Header.{Header}
 use Rattle.class_order.specs.declared.rows.Row.{Row}
-use Rattle.class_order.specs.Order.{above, IsOrder}
+use Rattle.class_order.specs.Order.{above, IsBefore, IsNext, IsOrder}
+use Rattle.class_order.proofs.Next.{next_same}
+use Rattle.class_order.proofs.Ordered.{order_listed}
 use Rattle.class_order.specs.Rows.{applications, applications_in, row_at, AreRows, AreAdded, ArePlaced}
 
 abbrev none : Row
@@ -37,6 +39,7 @@ placed_none hs ds ns e = record {
   numbers = e;
   low = λ j l. absurd (omega (arith, l));
   high = λ j l. absurd (omega (arith, l));
+  grow = λ j k _ l. absurd (omega (arith, l));
   class = λ j s c l. absurd (omega (arith, l));
   step = λ j s c l. absurd (omega (arith, l));
   known = λ c l. absurd (omega (arith, l));
@@ -88,6 +91,10 @@ module _ (hs : List Header) (ds : List ℕ) (i : ℕ) (rs us : List Row) (ns : L
     numbers = length-set ns d n ∙ p.numbers;
     low = each (λ x. applications hs x ≤ get_or ms x 0) (λ j l. let h = p.low j l in let q = same_number j l in omega (arith, h, q)) (omega (arith, new_number, top));
     high = each (λ x. get_or ms x 0 < length us) (λ j l. let h = p.high j l in let q = same_number j l in let t = a.longer in omega (arith, h, q, t)) (let t = a.longer in omega (arith, new_number, top, t));
+    grow = λ j k m l. elim (split k l) [
+      | inl h ↦ let g = p.grow j k m h in let q = same_number j (omega (arith, m, h)) in let r = same_number k h in omega (arith, g, q, r)
+      | inr e ↦ let h = p.high j (omega (arith, m, e)) in let q = same_number j (omega (arith, m, e)) in let r : get_or ms (get_or ds k 0) 0 ≡ n = ap (λ z. get_or ms (get_or ds z 0) 0) e ∙ ap (λ z. get_or ms z 0) (sym is) ∙ new_number in omega (arith, h, q, r, top)
+    ];
     class = λ j s c l. each (λ x. s ≤ applications hs x → c + applications hs x ≡ get_or ms x 0 + s → (row_at us c).class ≡ x) (λ j l m e. ap (λ (r : Row). r.class) (old_row j s c l m e) ∙ p.class j s c l m (e ∙ ap (λ z. z + s) (same_number j l))) (λ m e. let q : c ≡ length rs + s = omega (arith, e, new_number, top) in ap (λ z. (row_at us z).class) q ∙ a.class s (omega (arith, m))) j l;
     step = λ j s c l. each (λ x. s ≤ applications hs x → c + applications hs x ≡ get_or ms x 0 + s → (row_at us c).step ≡ s) (λ j l m e. ap (λ (r : Row). r.step) (old_row j s c l m e) ∙ p.step j s c l m (e ∙ ap (λ z. z + s) (same_number j l))) (λ m e. let q : c ≡ length rs + s = omega (arith, e, new_number, top) in ap (λ z. (row_at us z).step) q ∙ a.step s (omega (arith, m))) j l;
     known = λ c l. elim (rows_split c l) [ inl q ↦ let k = p.known c q in (k.0, omega (arith, k.1), k.2 ∙ ap (λ (r : Row). r.class) (sym (a.kept c q))) | inr q ↦ (i, omega arith, sym is ∙ sym (ap (λ z. (row_at us z).class) q.2 ∙ a.class q.0 q.1)) ];
@@ -103,6 +110,20 @@ module _ (hs : List Header) (ds : List ℕ) (rs : List Row) (ns : List ℕ) (ord
   all : (P : ℕ → Type 0) → ((j : ℕ) → j < length ds → P (get_or ds j 0)) → (d : ℕ) → d < length hs → P d
   all P h d l = let b = order.each d l in transport P b.2 (h b.0 b.1)
 
+  -- the classes before one in the order have smaller numbers
+  number_before : (i c : ℕ) → i < length ds → IsBefore ds i c → get_or ns c 0 < get_or ns (get_or ds i 0) 0
+  number_before i c l b = transport (λ z. get_or ns z 0 < get_or ns (get_or ds i 0) 0) b.2 (p.grow b.0 i b.1 l)
+
+  -- and no others have
+  before_number : (i c : ℕ) → i < length ds → c < length hs → get_or ns c 0 < get_or ns (get_or ds i 0) 0 → IsBefore ds i c
+  before_number i c l m h =
+      let b = order.each c m in
+      let q : get_or ns (get_or ds b.0 0) 0 ≡ get_or ns c 0 = ap (λ z. get_or ns z 0) b.2 in
+      elim (cases_order b.0 i) [
+        | inl e ↦ let r : get_or ns (get_or ds b.0 0) 0 ≡ get_or ns (get_or ds i 0) 0 = ap (λ z. get_or ns (get_or ds z 0) 0) e in absurd (omega (arith, h, q, r))
+        | inr n ↦ elim n [ inl s ↦ (b.0, s, b.2) | inr s ↦ let g = p.grow i b.0 s b.1 in absurd (omega (arith, g, h, q)) ]
+      ]
+
   pub table : AreRows hs rs ns
   table = record {
     numbers = p.numbers;
@@ -114,6 +135,7 @@ module _ (hs : List Header) (ds : List ℕ) (rs : List Row) (ns : List ℕ) (ord
     steps = p.steps;
     place = p.place;
     after = λ d k l. all (λ x. k < length (above hs x) → get_or ns (get_or (above hs x) k 0) 0 + applications hs x < get_or ns x 0) (λ j l m. p.after j k l m) d l;
+    next = λ d l. all (λ x. IsNext hs (λ c. get_or ns c 0 < get_or ns x 0) x) (λ j m. next_same hs (order_listed hs ds order) (IsBefore ds j) (λ c. get_or ns c 0 < get_or ns (get_or ds j 0) 0) (λ c _ b. number_before j c m b) (λ c s h. before_number j c m s h) (get_or ds j 0) (order.next j m)) d l;
   }
 
 apps_at : (hs : List Header) (d : ℕ) (h : Header) → d < length hs → h ≡ get_or hs d h → applications hs d ≡ h.applications

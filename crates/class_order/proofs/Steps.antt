@@ -1,15 +1,15 @@
 -- The steps of the walk keep what holds of it.
-use Rattle.std.proofs.Common.{◌≡◌, ℕ, zero, suc, ◌<◌, ◌≤◌, ◌+◌, ◌-◌, List, [], ◌∷◌, ◌++◌, inl, inr, refl, sym, ap, ◌∙◌, arith, length, get_or, set, replicate, slice_get, Option, Some, None, subst as transport}
+use Rattle.std.proofs.Common.{◌≡◌, ℕ, zero, suc, ◌<◌, ◌≤◌, ◌+◌, ◌-◌, List, [], ◌∷◌, ◌++◌, inl, inr, refl, sym, ap, ◌∙◌, arith, length, get_or, set, subst as transport}
 use Rattle.std.proofs.lemmas.Bool.{cases_eq}
-use Rattle.std.proofs.lemmas.List.{length-append, length-set, get_or_append_left, get_or_at, get_or_read, length-replicate}
-use Rattle.std.proofs.lemmas.Option.{slice_get_within}
+use Rattle.std.proofs.lemmas.List.{length-append, length-set, get_or_append_left, get_or_at, get_or_read}
 use Rattle.class_order.specs.declared.header.Header.{Header}
 use Rattle.class_order.specs.declared.walk.Mark.{Mark}
 use Rattle.class_order.specs.declared.walk.Mark.TheVariants.{New, Open, Done}
 use Rattle.class_order.specs.declared.walk.Frame.{Frame}
-use Rattle.class_order.specs.Order.{above, above_in, Leads, names, passes, HasCycle, AreListed, IsOrder, IsBefore}
+use Rattle.class_order.specs.Order.{above, Leads, names, passes, HasCycle, AreListed, IsBefore, Descends, here, down, IsNext}
 use Rattle.class_order.specs.Walk.{mark_of, frame_at, IsDoneBefore, IsWalk, IsTouched, share, untouched, waiting}
-use Rattle.class_order.proofs.Lists.{push_lt, push_top, push_cases, push_all, mark_same, keep, back, done_same, open_same, open_done, new_done, new_open, untouched_set, touched_set, waiting_push, header_at, fresh}
+use Rattle.class_order.proofs.Next.{next_push}
+use Rattle.class_order.proofs.Lists.{push_lt, push_top, push_cases, push_all, mark_same, keep, back, done_same, open_same, open_done, new_done, new_open, untouched_set, touched_set, waiting_push, header_at}
 
 abbrev none : Frame
 none = record { class = 0; next = 0 }
@@ -51,13 +51,47 @@ module _ (hs : List Header) (ms : List Mark) (ds : List ℕ) (fs : List Frame) (
   front_next : (j : ℕ) → j + 1 < length fs → get_or (above hs (frame_at fs j).class) (frame_at fs j).next 0 ≡ (frame_at fs (j + 1)).class
   front_next j h = front_link j (omega (arith, h)) ∙ ap (λ (g : Frame). g.class) (front (j + 1) h)
 
+  front_first : (c : ℕ) → 0 < length fs → c < (frame_at fs 0).class → (i : ℕ) × (mark_of ms c ≡ Done i)
+  front_first c l = transport (λ (g : Frame). c < g.class → (i : ℕ) × (mark_of ms c ≡ Done i)) (front 0 l) (w.stack.first c (omega (arith, l, length-append fs (f ∷ []))))
+
+  done_before : (e i : ℕ) → mark_of ms e ≡ Done i → IsBefore ds (length ds) e
+  done_before e i q = (i, w.finished.short e i q, w.finished.found e i q)
+
+  open_before : (e j : ℕ) → mark_of ms e ≡ Open j → IsBefore ds (length ds) e → ⊥
+  open_before e j q b = open_done _ _ (sym q ∙ sym (ap (mark_of ms) b.2) ∙ w.finished.place b.0 b.1)
+
+  descends_from : (n i : ℕ) → i + n ≡ length fs → Descends hs (IsBefore ds (length ds)) (frame_at (fs ++ f ∷ []) i).class f.class
+  descends_from zero i p =
+      let q : i ≡ length fs = omega (arith, p) in
+      transport (λ z. Descends hs (IsBefore ds (length ds)) (frame_at (fs ++ f ∷ []) z).class f.class) (sym q)
+      (transport (λ (g : Frame). Descends hs (IsBefore ds (length ds)) g.class f.class) (sym last) (here f.class))
+  descends_from (suc n) i p =
+      let l : i + 1 < length (fs ++ f ∷ []) = omega (arith, p, length-append fs (f ∷ [])) in
+      let s = w.stack.link i l in
+      down (frame_at (fs ++ f ∷ []) i).class (frame_at (fs ++ f ∷ []) i).next f.class (w.stack.within i l)
+      (λ k m. let r = w.stack.looked i k (omega (arith, l)) m in done_before _ r.0 r.1)
+      (open_before _ (i + 1) (ap (mark_of ms) s ∙ w.stack.place (i + 1) l))
+      (transport (λ d. Descends hs (IsBefore ds (length ds)) d f.class) (sym s) (descends_from n (i + 1) (omega (arith, p))))
+
+  -- the top of the stack is finished next
+  top_next : IsNext hs (IsBefore ds (length ds)) f.class
+  top_next =
+      let l : 0 < length (fs ++ f ∷ []) = omega (arith, length-append fs (f ∷ [])) in
+      record {
+        root = (frame_at (fs ++ f ∷ []) 0).class;
+        listed = w.stack.listed 0 l;
+        first = λ c m. let r = w.stack.first c l m in done_before c r.0 r.1;
+        new = open_before _ 0 (w.stack.place 0 l);
+        descends = descends_from (length fs) 0 (omega arith);
+      }
+
   pub finish_untouched : (n : ℕ) → untouched (set ms f.class (Done n)) hs ≡ untouched ms hs
   finish_untouched n =
       let r = untouched_set ms hs f.class (Done n) top_marked top_listed in
       let q : share (mark_of ms f.class) (length (above hs f.class)) ≡ 0 = ap (λ x. share x (length (above hs f.class))) top_mark in
       omega (arith, r, q)
 
-  module _ (all : length (above hs f.class) ≤ f.next) where
+  module _ (named : AreListed hs) (all : length (above hs f.class) ≤ f.next) where
     abbrev m : Mark
     m = Done (length ds)
 
@@ -91,6 +125,9 @@ module _ (hs : List Header) (ms : List Mark) (ds : List ℕ) (fs : List Frame) (
             (λ h.
             let r = top_looked k (omega (arith, all, h)) in (r.0, w.finished.short _ r.0 r.1, kept _ r.0 r.1))
             i l;
+        next = push_all (λ i e. IsNext hs (IsBefore (ds ++ f.class ∷ []) i) e) ds f.class 0
+            (λ i l. next_push hs named ds (f.class ∷ []) i _ (omega (arith, l)) (w.finished.next i l))
+            (next_push hs named ds (f.class ∷ []) (length ds) f.class (omega arith) top_next);
       };
       stack = record {
         place = λ j l. kept_open _ j l (front_place j l);
@@ -100,6 +137,7 @@ module _ (hs : List Header) (ms : List Mark) (ds : List ℕ) (fs : List Frame) (
         looked = λ j k l h. let r = front_looked j k l h in (r.0, kept _ r.0 r.1);
         within = λ j l. front_within j (omega (arith, l));
         link = front_next;
+        first = λ c l m. let r = front_first c l m in (r.0, kept _ r.0 r.1);
       };
     }
 
@@ -152,6 +190,7 @@ module _ (hs : List Header) (ms : List Mark) (ds : List ℕ) (fs : List Frame) (
         link = λ j l.
             let b : j < length fs = omega (arith, l, length-append fs (g ∷ [])) in
             transport (λ (h : Frame). get_or (above hs h.class) h.next 0 ≡ (frame_at (fs ++ g ∷ []) (j + 1)).class) (sym (frame_of j b)) (front_link j b ∙ sym (classes (j + 1) l));
+        first = λ c l m. w.stack.first c (omega (arith, l, same_length)) (transport (λ z. c < z) (classes 0 l) m);
       };
     }
 
@@ -217,6 +256,7 @@ module _ (hs : List Header) (ms : List Mark) (ds : List ℕ) (fs : List Frame) (
         short = λ d i h. w.finished.short d i (was_done d i h);
         found = λ d i h. w.finished.found d i (was_done d i h);
         after = λ i k l h. let r = w.finished.after i k l h in (r.0, r.1, still _ r.0 r.2);
+        next = w.finished.next;
       };
       stack = record {
         place = push_all (λ j (h : Frame). mark_of (set ms e o) h.class ≡ Open j) ss b none (λ j l. still_open _ j (w.stack.place j l)) (mark_same ms e o marked);
@@ -230,6 +270,7 @@ module _ (hs : List Header) (ms : List Mark) (ds : List ℕ) (fs : List Frame) (
         link = λ j l.
             let q : j < length ss = omega (arith, l, length-append ss (b ∷ [])) in
             transport (λ (h : Frame). get_or (above hs h.class) h.next 0 ≡ (frame_at (ss ++ b ∷ []) (j + 1)).class) (sym (up j q)) (ss_link j q);
+        first = λ c l m. let q : 0 < length ss = omega (arith, ss_length) in let r = w.stack.first c q (transport (λ (h : Frame). c < h.class) (up 0 q) m) in (r.0, still _ r.0 r.1);
       };
     }
 
@@ -261,20 +302,37 @@ module _ (hs : List Header) (ms : List Mark) (ds : List ℕ) (fs : List Frame) (
         let q : j + (length fs - j) ≡ length fs = omega (arith, l, length-append fs (f ∷ [])) in
         (e, transport (λ d. Leads hs d e) (w.stack.found e j opened) (leads_from (length fs - j) j q))
 
-  pub cycle_read : (h : Header) (e j : ℕ) (m : Mark) → AreListed hs → h ≡ get_or hs f.class h → f.next < (get_or hs f.class h).above.len → e ≡ get_or (get_or hs f.class h).above.items f.next e → m ≡ get_or ms e m → m ≡ Open j → HasCycle hs
-  cycle_read h e j m named hi l' ei' mi mo =
-      let l : f.next < length h.above.items = transport (λ z. f.next < z) h.above.ok.0 (transport (λ (g : Header). f.next < g.above.len) (sym hi) l') in
-      let ei : e ≡ get_or h.above.items f.next e = transport (λ (g : Header). e ≡ get_or g.above.items f.next e) (sym hi) ei' in
-      let s : above hs f.class ≡ h.above.items = header_at hs f.class h top_listed hi in
-      let is : e ≡ get_or (above hs f.class) f.next 0 = get_or_read h.above.items f.next e l ei 0 ∙ ap (λ xs. get_or xs f.next 0) (sym s) in
-      let within : f.next < length (above hs f.class) = transport (λ xs. f.next < length xs) (sym s) l in
-      let listed : e < length hs = transport (λ z. z < length hs) (sym is) (named f.class f.next within) in
-      let q = w.finished.marks in
-      let marked : e < length ms = omega (arith, q, listed) in
-      cycle e j is within (sym (get_or_read ms e m marked mi New) ∙ mo)
+  -- what the code reads as the next class that the header names
+  module _ (h : Header) (e : ℕ) (named : AreListed hs) (hi : h ≡ get_or hs f.class h) (long : f.next < (get_or hs f.class h).above.len) (ei : e ≡ get_or (get_or hs f.class h).above.items f.next e) where
+    read_above : above hs f.class ≡ h.above.items
+    read_above = header_at hs f.class h top_listed hi
+
+    read_long : f.next < length h.above.items
+    read_long = transport (λ z. f.next < z) h.above.ok.0 (transport (λ (g : Header). f.next < g.above.len) (sym hi) long)
+
+    pub read_within : f.next < length (above hs f.class)
+    read_within = transport (λ xs. f.next < length xs) (sym read_above) read_long
+
+    pub read_is : e ≡ get_or (above hs f.class) f.next 0
+    read_is = get_or_read h.above.items f.next e read_long (transport (λ (g : Header). e ≡ get_or g.above.items f.next e) (sym hi) ei) 0 ∙ ap (λ xs. get_or xs f.next 0) (sym read_above)
+
+    pub read_listed : e < length hs
+    read_listed = transport (λ z. z < length hs) (sym read_is) (named f.class f.next read_within)
+
+    pub read_marked : e < length ms
+    read_marked = let q = w.finished.marks in omega (arith, q, read_listed)
+
+    pub read_mark : (m : Mark) → m ≡ get_or ms e m → mark_of ms e ≡ m
+    read_mark m mi = sym (get_or_read ms e m read_marked mi New)
+
+    pub read_done : (m : Mark) (i : ℕ) → m ≡ get_or ms e m → m ≡ Done i → (i : ℕ) × (mark_of ms (get_or (above hs f.class) f.next 0) ≡ Done i)
+    read_done m i mi mo = (i, ap (mark_of ms) (sym read_is) ∙ read_mark m mi ∙ mo)
+
+    pub read_cycle : (m : Mark) (j : ℕ) → m ≡ get_or ms e m → m ≡ Open j → HasCycle hs
+    read_cycle m j mi mo = cycle e j read_is read_within (read_mark m mi ∙ mo)
 
 -- a class is put on the empty stack
-module _ (hs : List Header) (ms : List Mark) (ds : List ℕ) (r : ℕ) (w : IsWalk hs ms ds []) (listed : r < length hs) (new : mark_of ms r ≡ New) where
+module _ (hs : List Header) (ms : List Mark) (ds : List ℕ) (r : ℕ) (w : IsWalk hs ms ds []) (listed : r < length hs) (new : mark_of ms r ≡ New) (before : (d : ℕ) → d < r → IsTouched ms d) where
   abbrev rooted_frame : Frame
   rooted_frame = record { class = r; next = 0 }
 
@@ -290,6 +348,11 @@ module _ (hs : List Header) (ms : List Mark) (ds : List ℕ) (r : ℕ) (w : IsWa
   rooted_open : (d j : ℕ) → mark_of (set ms r (Open 0)) d ≡ Open j → (d ≡ r) × (j ≡ 0)
   rooted_open d j h = elim (back ms r d (Open 0) (Open j) rooted_marked h) [ inl p ↦ (p.0, sym (open_same _ _ p.1)) | inr p ↦ let l = w.stack.short d j p.1 in absurd (omega (arith, l)) ]
 
+  rooted_done : (d : ℕ) (m : Mark) → mark_of ms d ≡ m → IsTouched ms d → (i : ℕ) × (mark_of ms d ≡ Done i)
+  rooted_done d New q t = absurd (t q)
+  rooted_done d (Open j) q t = let l = w.stack.short d j q in absurd (omega (arith, l))
+  rooted_done d (Done i) q t = (i, q)
+
   at_root : (j : ℕ) → j < 1 → frame_at (rooted_frame ∷ []) j ≡ rooted_frame
   at_root j l = let q : j ≡ 0 = omega (arith, l) in ap (λ z. frame_at (rooted_frame ∷ []) z) q
 
@@ -302,6 +365,7 @@ module _ (hs : List Header) (ms : List Mark) (ds : List ℕ) (r : ℕ) (w : IsWa
       short = λ d i h. w.finished.short d i (rooted_was d i h);
       found = λ d i h. w.finished.found d i (rooted_was d i h);
       after = λ i k l h. let q = w.finished.after i k l h in (q.0, q.1, rooted_still _ q.0 q.2);
+      next = w.finished.next;
     };
     stack = record {
       place = λ j l. let q : j ≡ 0 = omega (arith, l) in transport (λ z. mark_of (set ms r (Open 0)) (frame_at (rooted_frame ∷ []) z).class ≡ Open z) (sym q) (mark_same ms r (Open 0) rooted_marked);
@@ -311,5 +375,6 @@ module _ (hs : List Header) (ms : List Mark) (ds : List ℕ) (r : ℕ) (w : IsWa
       looked = λ j k l h. let q : k < 0 = transport (λ (g : Frame). k < g.next) (at_root j (omega (arith, l))) h in absurd (omega (arith, q));
       within = λ j l. absurd (omega (arith, l));
       link = λ j l. absurd (omega (arith, l));
+      first = λ c _ m. let q = rooted_done c (mark_of ms c) refl (before c m) in (q.0, rooted_still _ q.0 q.1);
     };
   }

@@ -1,8 +1,8 @@
--- The rows of a table of classes: each class after its mixin applications, in an order of the classes.
+-- The rows of a table of classes: each class after its mixin applications, in the order of the classes.
 use Rattle.std.specs.Prelude.{◌≡◌, ℕ, ◌<◌, ◌≤◌, ◌+◌, List, length, Option, Some, None, slice_get, slice_index, slice_index_or}
 use Rattle.class_order.specs.declared.header.Header.{Header}
 use Rattle.class_order.specs.declared.rows.Row.{Row}
-use Rattle.class_order.specs.Order.{above}
+use Rattle.class_order.specs.Order.{above, IsNext}
 
 abbrev pub applications_in : Option Header → ℕ
 applications_in None = 0
@@ -21,7 +21,7 @@ abbrev pub IsPlace : List Header → List ℕ → ℕ → ℕ → ℕ → Type 0
 IsPlace hs ns d s c = c + applications hs d ≡ slice_index ns d + s
 
 -- A class's number is the place of its own row. Its mixin applications stand directly before it, in source order, and the
--- classes that its header names before these.
+-- classes that its header names before these. The classes stand in the order in which a walk finishes them, depth first.
 pub record AreRows (hs : List Header) (rs : List Row) (ns : List ℕ) : Type 0 where
   pub numbers : length ns ≡ length hs
   pub low : (d : ℕ) → d < length hs → applications hs d ≤ slice_index ns d
@@ -35,6 +35,7 @@ pub record AreRows (hs : List Header) (rs : List Row) (ns : List ℕ) : Type 0 w
   pub place : (c : ℕ) → c < length rs → IsPlace hs ns (row_at rs c).class (row_at rs c).step c
   pub after : (d k : ℕ) → d < length hs → k < length (above hs d)
       → slice_index ns (slice_index (above hs d) k) + applications hs d < slice_index ns d
+  pub next : (d : ℕ) → d < length hs → IsNext hs (λ c. slice_index ns c < slice_index ns d) d
 
 -- Means of proof, which no public contract cites.
 
@@ -50,6 +51,7 @@ pub record ArePlaced (hs : List Header) (ds : List ℕ) (i : ℕ) (rs : List Row
   pub numbers : length ns ≡ length hs
   pub low : (j : ℕ) → j < i → applications hs (slice_index ds j) ≤ slice_index ns (slice_index ds j)
   pub high : (j : ℕ) → j < i → slice_index ns (slice_index ds j) < length rs
+  pub grow : (j k : ℕ) → j < k → k < i → slice_index ns (slice_index ds j) < slice_index ns (slice_index ds k)
   pub class : (j s c : ℕ) → j < i → s ≤ applications hs (slice_index ds j) → IsPlace hs ns (slice_index ds j) s c
       → (row_at rs c).class ≡ slice_index ds j
   pub step : (j s c : ℕ) → j < i → s ≤ applications hs (slice_index ds j) → IsPlace hs ns (slice_index ds j) s c

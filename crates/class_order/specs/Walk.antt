@@ -4,7 +4,7 @@ use Rattle.class_order.specs.declared.header.Header.{Header}
 use Rattle.class_order.specs.declared.walk.Mark.{Mark}
 use Rattle.class_order.specs.declared.walk.Mark.TheVariants.{New, Open, Done}
 use Rattle.class_order.specs.declared.walk.Frame.{Frame}
-use Rattle.class_order.specs.Order.{above}
+use Rattle.class_order.specs.Order.{above, IsBefore, IsNext}
 
 abbrev pub mark_of : List Mark → ℕ → Mark
 mark_of ms d = slice_index_or ms d New
@@ -30,6 +30,7 @@ pub record IsFinished (hs : List Header) (ms : List Mark) (ds : List ℕ) : Type
   pub found : (d i : ℕ) → mark_of ms d ≡ Done i → slice_index ds i ≡ d
   pub after : (i k : ℕ) → i < length ds → k < length (above hs (slice_index ds i))
       → IsDoneBefore ms i (slice_index (above hs (slice_index ds i)) k)
+  pub next : (i : ℕ) → i < length ds → IsNext hs (IsBefore ds i) (slice_index ds i)
 
 -- what holds of the classes that are begun, the outermost first
 pub record IsStack (hs : List Header) (ms : List Mark) (fs : List Frame) : Type 0 where
@@ -42,6 +43,7 @@ pub record IsStack (hs : List Header) (ms : List Mark) (fs : List Frame) : Type 
   pub within : (j : ℕ) → j + 1 < length fs → (frame_at fs j).next < length (above hs (frame_at fs j).class)
   pub link : (j : ℕ) → j + 1 < length fs
       → slice_index (above hs (frame_at fs j).class) (frame_at fs j).next ≡ (frame_at fs (j + 1)).class
+  pub first : (c : ℕ) → 0 < length fs → c < (frame_at fs 0).class → IsDone (mark_of ms c)
 
 pub record IsWalk (hs : List Header) (ms : List Mark) (ds : List ℕ) (fs : List Frame) : Type 0 where
   pub finished : IsFinished hs ms ds

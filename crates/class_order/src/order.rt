@@ -1,4 +1,4 @@
-// The order of the classes, each after those that its header names.
+// The order of the classes: depth first in source order, so that each comes after those that its header names.
 ghost use Rattle.std.specs.Prelude.{◌≡◌, length, IfOk, OnOk};
 ghost use Rattle.class_order.specs.Order.{IsOrder, HasCycle, AreListed};
 ghost use Rattle.class_order.specs.declared.order.OrderFault.TheVariants.{Cyclic};
@@ -30,9 +30,10 @@ impl From<AllocError> for OrderFault {
     }
 }
 
-/// The numbers of the classes in an order in which each stands once, and after all that its header names (ECMA-408,
-/// Superclasses and Superinterfaces: no class stands above itself). `Cyclic` comes exactly where a class leads back to
-/// itself. It takes time and memory linear in the headers, and no function calls itself.
+/// The numbers of the classes, each once and after all that its header names (ECMA-408, Superclasses and Superinterfaces: no
+/// class stands above itself), in the order in which a walk finishes them that goes depth first in source order. `Cyclic`
+/// comes exactly where a class leads back to itself. It takes time and memory linear in the headers, and no function calls
+/// itself.
 pub fn order(alloc: Global, headers: &[Header]) -> Result<Vec<usize>, OrderFault>
     requires { AreListed headers.now }
     ensures order { IfOk result (λ v. IsOrder headers.now v.items) }

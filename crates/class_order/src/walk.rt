@@ -40,6 +40,7 @@ pub fn visit(headers: &[Header], walk: &mut Walk, root: usize) -> Result<(), Ord
     requires root { root < length headers.now }
     requires empty { walk.old.stack.items ≡ [] }
     requires walk { IsWalk headers.now walk.old.marks.items walk.old.order.items [] }
+    requires first { (d : ℕ) → d < root → IsTouched walk.old.marks.items d }
     ensures empty { OnOk result (walk.new.stack.items ≡ []) }
     ensures walk { OnOk result (IsWalk headers.now walk.new.marks.items walk.new.order.items []) }
     ensures root { OnOk result (IsTouched walk.new.marks.items root) }
@@ -62,6 +63,7 @@ fn begin_root(headers: &[Header], walk: &mut Walk, root: usize) -> Result<(), Al
     requires empty { walk.old.stack.items ≡ [] }
     requires walk { IsWalk headers.now walk.old.marks.items walk.old.order.items [] }
     requires new { mark_of walk.old.marks.items root ≡ New }
+    requires first { (d : ℕ) → d < root → IsTouched walk.old.marks.items d }
     ensures walk { OnOk result (IsWalk headers.now walk.new.marks.items walk.new.order.items walk.new.stack.items) }
     ensures root { OnOk result (IsTouched walk.new.marks.items root) }
     ensures touched { OnOk result ((d : ℕ) → IsTouched walk.old.marks.items d → IsTouched walk.new.marks.items d) }
@@ -141,6 +143,7 @@ fn begin(headers: &[Header], walk: &mut Walk, frame: Frame, class: usize) -> Res
 
 /// Ends the class that has been taken off the stack.
 fn finish(headers: &[Header], walk: &mut Walk, frame: Frame) -> Result<(), AllocError>
+    requires listed { AreListed headers.now }
     requires walk { IsWalk headers.now walk.old.marks.items walk.old.order.items (walk.old.stack.items ++ frame ∷ []) }
     requires all { length (above headers.now frame.class) ≤ frame.next }
     ensures walk { OnOk result (IsWalk headers.now walk.new.marks.items walk.new.order.items walk.new.stack.items) }

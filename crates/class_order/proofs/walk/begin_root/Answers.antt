@@ -11,4 +11,4 @@ returns-clause-walk c =
     let f : Frame = record { class = c.args.root; next = 0 } in
     transport (λ z. IsWalk c.args.headers.now (set c.args.walk.now.marks.items c.args.root (Open 0)) c.args.walk.now.order.items z)
     (sym (c.in_ok-push.ensures.items ∙ ap (λ (z : List Frame). z ++ f ∷ []) c.requires.empty))
-    (rooted c.args.headers.now c.args.walk.now.marks.items c.args.walk.now.order.items c.args.root c.requires.walk c.requires.root c.requires.new)
+    (rooted c.args.headers.now c.args.walk.now.marks.items c.args.walk.now.order.items c.args.root c.requires.walk c.requires.root c.requires.new c.requires.first)
