@@ -1,15 +1,13 @@
 -- Members that are added behind others.
-use Rattle.std.proofs.Common.{◌≡◌, ℕ, zero, suc, ◌<◌, ◌≤◌, ◌+◌, List, [], ◌∷◌, ◌++◌, inl, inr, length, map, take, get_or, option_map, Option, Some, None, slice_get, arith, refl, sym, ap, ◌∙◌, subst as transport}
+use Rattle.std.proofs.Common.{◌≡◌, ℕ, zero, suc, ◌<◌, ◌≤◌, ◌+◌, List, [], ◌∷◌, ◌++◌, inl, inr, length, map, take, get_or, option_map, Option, Some, slice_get, arith, refl, sym, ap, ◌∙◌, subst as transport}
 use Rattle.std.proofs.lemmas.List.{length_push, take_more}
 use Rattle.std.proofs.lemmas.Option.{same_Some, slice_get_within, slice_get-get_or, slice_get_read}
-use Rattle.std.proofs.lemmas.Bool.{cases_order}
 use Rattle.class_order.proofs.Lists.{push_cases}
 use Rattle.dart_ir.specs.declared.number.MemberId.{MemberId}
 use Rattle.dart_ir.specs.declared.class.MemberInfo.{MemberInfo}
-use Rattle.dart_ir.specs.declared.class.ClassInfo.{ClassInfo}
 use Rattle.dart_ir.specs.Ty.{Tys}
-use Rattle.class_table.specs.Members.{Described, described, described_at, descriptions, members_in, mixed_in, mixin_members, Adds, AreBelow}
-use Rattle.class_table.proofs.Lists.{some_in, slice_get_at, slice_get_left}
+use Rattle.class_table.specs.Members.{Described, described, described_at, descriptions, mixed_in, Adds, AreBelow}
+use Rattle.class_table.proofs.Lists.{slice_get_at, slice_get_left}
 
 pub slice_get_front : {A : Type 0} (xs ys : List A) (j : ℕ) → j < length xs → slice_get (xs ++ ys) j ≡ slice_get xs j
 slice_get_front [] ys j l = absurd (omega (arith, l))
@@ -24,6 +22,7 @@ pub adds_none : (ms : List MemberInfo) (c : ℕ) → Adds ms ms [] [] c
 adds_none ms c = record {
   kept = λ j l. refl;
   longer = omega arith;
+  numbered = λ j m q. absurd (cc);
   listed = λ j m q. absurd (cc);
   are = refl;
   owned = λ j x l q. let m = slice_get_within ms j x q in absurd (omega (arith, l, m));
@@ -46,7 +45,11 @@ pub adds_more : (old new ms : List MemberInfo) (ids js : List MemberId) (xs ys :
 adds_more old new ms ids js xs ys c x id a e f n g o =
     transport (λ z. Adds old z js ys c) (sym e) (transport (λ z. Adds old (new ++ x ∷ []) z ys c) (sym f) (transport (λ z. Adds old (new ++ x ∷ []) (ids ++ id ∷ []) z c) (sym g) (record {
       kept = λ j l. slice_get_front new (x ∷ []) j (let m = a.longer in omega (arith, l, m)) ∙ a.kept j l;
-      longer = let m = a.longer in omega (arith, m, length_push new x);
+      longer = let m = a.longer in omega (arith, m, length_push new x, length_push ids id);
+      numbered = λ j m q. elim (push_cases ids id j (slice_get_within (ids ++ id ∷ []) j m q)) [
+        | inl i ↦ a.numbered j m (slice_get_left ids (id ∷ []) j m i q)
+        | inr i ↦ let s : id.0 ≡ m.0 = ap (λ (z : MemberId). z.0) (same_Some id m (sym (slice_get_at ids id j i) ∙ q)) in let w = a.longer in omega (arith, s, n, i, w)
+      ];
       listed = below_push ids id (length new) (length (new ++ x ∷ [])) a.listed (omega (arith, length_push new x)) (omega (arith, n, length_push new x));
       are = map_push (λ (m : MemberId). described_at (new ++ x ∷ []) m.0) ids id ∙ ap (λ (z : List (Option Described)). z ++ described_at (new ++ x ∷ []) id.0 ∷ []) (same_descriptions new (new ++ x ∷ []) (slice_get_front new (x ∷ [])) ids a.listed ∙ a.are) ∙ ap (λ (z : Option Described). xs ++ z ∷ []) (ap (option_map described) (slice_get_at new x id.0 n));
       owned = λ j y l q. elim (push_cases new x j (slice_get_within (new ++ x ∷ []) j y q)) [ inl i ↦ a.owned j y l (slice_get_left new (x ∷ []) j y i q) | inr i ↦ let s : x ≡ y = same_Some x y (sym (slice_get_at new x j i) ∙ q) in ap (λ (z : MemberInfo). z.owner.0) (sym s) ∙ o ];

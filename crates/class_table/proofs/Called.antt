@@ -1,5 +1,5 @@
 -- Which classes of a table have a method `call`.
-use Rattle.std.proofs.Common.{◌≡◌, ℕ, zero, suc, ◌<◌, ◌≤◌, ◌+◌, ◌⊎◌, ◌&&◌, ◌||◌, ◌==◌, inl, inr, List, [], ◌∷◌, Bool, true, false, length, take, Option, Some, None, slice_get, arith, refl, sym, ap, ◌∙◌, subst as transport}
+use Rattle.std.proofs.Common.{◌≡◌, ℕ, zero, suc, ◌<◌, ◌⊎◌, ◌&&◌, ◌||◌, ◌==◌, inl, inr, List, [], ◌∷◌, Bool, true, false, take, Option, Some, None, slice_get, arith, refl, ap, ◌∙◌}
 use Rattle.std.proofs.lemmas.Bool.{eqb-true}
 use Rattle.dart_ir.specs.Ty.{Ty, dynamic, bottom, void, class, parameter, function}
 use Rattle.dart_ir.specs.Classes.{class_at, HasCall, HasCallAbove, IsEarlierClass}

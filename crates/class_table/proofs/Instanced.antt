@@ -1,7 +1,7 @@
 -- Formed types stay formed where formed arguments are put in.
-use Rattle.std.proofs.Common.{◌≡◌, ℕ, zero, suc, ◌<◌, ◌+◌, arith, refl, ap, ◌∙◌}
+use Rattle.std.proofs.Common.{◌≡◌, ℕ, zero, suc, ◌<◌, arith, refl, ap, ◌∙◌}
 use Rattle.dart_ir.specs.Ty.{Ty, Tys, NamedTys, dynamic, bottom, void, class, parameter, function, nil, cons, unnamed, named}
-use Rattle.dart_ir.specs.Classes.{count, class_at, parameter_count, IsFormed, AreFormed, AreNamedFormed}
+use Rattle.dart_ir.specs.Classes.{count, IsFormed, AreFormed, AreNamedFormed}
 use Rattle.dart_ir.specs.declared.class.Classes.{Classes}
 use Rattle.dart_type.specs.Instance.{argument, instance, instances, named_instances}
 

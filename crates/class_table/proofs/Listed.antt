@@ -1,5 +1,5 @@
 -- Each class that a header of a program names is declared.
-use Rattle.std.proofs.Common.{◌≡◌, ℕ, zero, suc, ◌<◌, ◌+◌, ◌++◌, ◌==◌, inl, inr, List, [], ◌∷◌, Bool, true, false, cond, length, All, get_or, Option, Some, None, slice_get, arith, refl, sym, ap, ◌∙◌, subst as transport}
+use Rattle.std.proofs.Common.{◌≡◌, ℕ, zero, suc, ◌<◌, ◌++◌, ◌==◌, inl, inr, List, [], ◌∷◌, Bool, true, false, cond, length, All, get_or, Option, Some, None, slice_get, arith, refl, subst as transport}
 use Rattle.class_order.specs.declared.header.Header.{Header}
 use Rattle.class_order.specs.Order.{above, AreListed}
 use Rattle.class_order.proofs.Ordered.{has_above}

@@ -1,6 +1,6 @@
 -- Lists whose elements are read, and prefixes of them.
-use Rattle.std.proofs.Common.{◌≡◌, ℕ, zero, suc, ◌<◌, ◌≤◌, ◌+◌, List, [], ◌∷◌, ◌++◌, length, map, take, get_or, All, Option, Some, None, slice_get, arith, refl, sym, ap, ◌∙◌, subst as transport}
-use Rattle.std.proofs.lemmas.Option.{same_Some, get_or_from_slice_get, slice_get_within}
+use Rattle.std.proofs.Common.{◌≡◌, ℕ, zero, suc, ◌<◌, ◌≤◌, List, [], ◌∷◌, ◌++◌, length, map, take, All, Option, Some, None, slice_get, arith, refl, ap, ◌∙◌, subst as transport}
+use Rattle.std.proofs.lemmas.Option.{get_or_from_slice_get, slice_get_within}
 use Rattle.dart_ir.specs.Ty.{Ty, ty}
 use Rattle.dart_ir.specs.declared.types.TypeRef.{TypeRef}
 use Rattle.dart_ir.specs.Classes.{with_superclass}

@@ -1,12 +1,10 @@
 -- The members of one more row, and what is read of members.
-use Rattle.std.proofs.Common.{◌≡◌, ℕ, zero, suc, ◌<◌, ◌≤◌, ◌+◌, List, [], ◌∷◌, ◌++◌, ◌⊎◌, inl, inr, length, map, take, get_or, All, option_map, Option, Some, None, slice_get, arith, refl, sym, ap, ◌∙◌, subst as transport}
-use Rattle.std.proofs.lemmas.List.{length_push}
+use Rattle.std.proofs.Common.{◌≡◌, ℕ, zero, suc, ◌<◌, ◌+◌, List, [], ◌∷◌, ◌++◌, inl, inr, length, map, take, get_or, All, option_map, Option, Some, None, slice_get, arith, refl, sym, ap, ◌∙◌, subst as transport}
 use Rattle.std.proofs.lemmas.Option.{same_Some, slice_get_within, slice_get-get_or}
 use Rattle.std.proofs.lemmas.Bool.{cases_order}
 use Rattle.class_order.proofs.Lists.{push_cases}
 use Rattle.class_order.specs.declared.rows.Row.{Row}
 use Rattle.class_order.specs.Rows.{row_at}
-use Rattle.dart_ir.specs.declared.number.MemberId.{MemberId}
 use Rattle.dart_ir.specs.declared.class.MemberInfo.{MemberInfo}
 use Rattle.dart_ir.specs.declared.class.ClassInfo.{ClassInfo}
 use Rattle.dart_ir.specs.Ty.{Ty, class, dynamic, bottom, void, parameter, function, ty}
@@ -15,7 +13,7 @@ use Rattle.class_fault.specs.declared.program.Declaration.{Declaration}
 use Rattle.class_fault.specs.declared.program.Program.{Program}
 use Rattle.class_fault.specs.Program.{declaration_at}
 use Rattle.class_table.specs.Renumbered.{renumbered}
-use Rattle.class_table.specs.Members.{Described, described, described_at, descriptions, members_in, mixed_in, mixin_members, row_members, AreMembers, Adds, AreBelow}
+use Rattle.class_table.specs.Members.{descriptions, members_in, mixed_in, mixin_members, row_members, member_count, AreMembers, Adds, AreBelow}
 use Rattle.class_table.proofs.Lists.{slice_get_at, slice_get_left, slice_get_take, take_push, take_whole}
 use Rattle.class_table.proofs.Added.{same_descriptions}
 
@@ -50,6 +48,10 @@ module _ (ms ns : List MemberInfo) (kept : (j : ℕ) → j < length ms → slice
   same_row numbers c i None = refl
   same_row numbers c i (Some t) = same_mixin c (renumbered numbers (ty t.of))
 
+pub count_push : (is : List ClassInfo) (info : ClassInfo) → member_count (is ++ info ∷ []) ≡ member_count is + length info.members.items
+count_push [] info = omega arith
+count_push (x ∷ is) info = let r = count_push is info in omega (arith, r)
+
 pub members_more : (p : Program) (numbers : List ℕ) (rs : List Row) (n : ℕ) (is js : List ClassInfo) (ms ns : List MemberInfo) (info : ClassInfo) (i : Declaration) → length is ≡ n → AreMembers p numbers rs n is ms → js ≡ is ++ info ∷ [] → declaration_at p (row_at rs n).class ≡ Some i
     → Adds ms ns info.members.items (row_members ms is numbers n i (slice_get i.mixins.items (row_at rs n).step)) n → AreMembers p numbers rs (n + 1) js ns
 members_more p numbers rs n is js ms ns info i size t q at a = transport (λ z. AreMembers p numbers rs (n + 1) z ns) (sym q) (record {
@@ -62,6 +64,11 @@ members_more p numbers rs n is js ms ns info i size t q at a = transport (λ z. 
     | inr f ↦ elim f [ inl l ↦ let w = t.owned j x (sym (a.kept j l) ∙ g) in omega (arith, w) | inr l ↦ let w = a.owned j x (omega (arith, l)) g in omega (arith, w) ]
   ];
   rows = λ c k x e g. elim (push_cases is info c (slice_get_within (is ++ info ∷ []) c x g)) [ inl l ↦ old c k x l e (slice_get_left is (info ∷ []) c x l g) | inr m ↦ new c k x m e g ];
+  numbered = λ c x g. elim (push_cases is info c (slice_get_within (is ++ info ∷ []) c x g)) [
+    | inl l ↦ λ j m h. t.numbered c x (slice_get_left is (info ∷ []) c x l g) j m h ∙ ap (λ z. member_count z + j) (sym (take_push is (info ∷ []) c (omega (arith, l))))
+    | inr e ↦ λ j m h. a.numbered j m (ap (λ (z : ClassInfo). slice_get z.members.items j) (same_Some info x (sym (slice_get_at is info c e) ∙ g)) ∙ h) ∙ ap (λ z. z + j) (t.total ∙ ap member_count (sym (take_whole is (info ∷ []) c e)))
+  ];
+  total = let l = a.longer in let m = t.total in omega (arith, l, m, count_push is info);
 })
   where
     below_take : (c b : ℕ) (x : ClassInfo) → slice_get (take c is) b ≡ Some x → AreBelow (length ms) x.members.items
@@ -91,4 +98,6 @@ no_members p numbers rs = record {
   listed = λ c info q. absurd (cc);
   owned = λ j x q. absurd (cc);
   rows = λ c i info e q. absurd (cc);
+  numbered = λ c info q. absurd (cc);
+  total = refl;
 }

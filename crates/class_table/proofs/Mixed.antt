@@ -1,16 +1,16 @@
 -- The members of a mixin, as the code reads them.
-use Rattle.std.proofs.Common.{◌≡◌, ℕ, ◌<◌, ◌≤◌, List, [], ◌∷◌, length, map, get_or, option_map, Option, Some, None, slice_get, arith, refl, sym, ap, ◌∙◌, subst as transport}
-use Rattle.std.proofs.lemmas.Option.{slice_get_past, slice_get_read, slice_get_within}
+use Rattle.std.proofs.Common.{◌≡◌, ℕ, ◌<◌, ◌≤◌, List, [], length, map, get_or, option_map, refl, sym, ap, ◌∙◌, subst as transport}
+use Rattle.std.proofs.lemmas.Option.{slice_get_past, slice_get_read}
 use Rattle.std.specs.Global.{Vec}
 use Rattle.dart_ir.specs.declared.number.ClassId.{ClassId}
 use Rattle.dart_ir.specs.declared.number.MemberId.{MemberId}
 use Rattle.dart_ir.specs.declared.types.TypeRef.{TypeRef, Class}
 use Rattle.dart_ir.specs.declared.class.MemberInfo.{MemberInfo}
 use Rattle.dart_ir.specs.declared.class.ClassInfo.{ClassInfo}
-use Rattle.dart_ir.specs.Ty.{Ty, Tys, class, ty, tys, of_list}
+use Rattle.dart_ir.specs.Ty.{Ty, class, ty, tys, of_list}
 use Rattle.dart_ir.proofs.View.{ty_class}
 use Rattle.class_table.specs.Renumbered.{renumbered, renumbered_all}
-use Rattle.class_table.specs.Members.{described, described_at, descriptions, members_in, mixed_in, mixin_members, Adds}
+use Rattle.class_table.specs.Members.{descriptions, members_in, mixed_in, mixin_members, Adds}
 use Rattle.class_table.proofs.Views.{renumbered_map}
 use Rattle.class_table.proofs.Added.{adds_none}
 

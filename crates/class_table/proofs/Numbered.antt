@@ -1,20 +1,19 @@
 -- Where the classes of a program stand in its table.
-use Rattle.std.proofs.Common.{◌≡◌, ℕ, zero, suc, ◌<◌, ◌≤◌, ◌+◌, ◌-◌, List, [], ◌∷◌, ◌++◌, inl, inr, Bool, true, false, cond, ◌==◌, length, map, All, get_or, Option, Some, None, slice_get, arith, refl, sym, ap, ◌∙◌, subst as transport}
+use Rattle.std.proofs.Common.{◌≡◌, ℕ, zero, ◌<◌, ◌+◌, ◌-◌, List, [], ◌∷◌, ◌++◌, inl, inr, Bool, true, false, cond, ◌==◌, length, get_or, Option, Some, None, arith, refl, sym, ap, ◌∙◌, subst as transport}
 use Rattle.std.proofs.lemmas.Bool.{cases_eq, eq-eqb, ne_eqb}
-use Rattle.std.proofs.lemmas.Option.{same_Some, slice_get_within}
+use Rattle.std.proofs.lemmas.Option.{slice_get_within}
 use Rattle.class_order.specs.declared.header.Header.{Header}
 use Rattle.class_order.specs.declared.rows.Row.{Row}
 use Rattle.class_order.specs.Order.{above}
 use Rattle.class_order.specs.Rows.{AreRows, row_at, applications}
-use Rattle.dart_ir.specs.Ty.{ty}
 use Rattle.class_fault.specs.declared.program.HeaderType.{HeaderType}
 use Rattle.class_fault.specs.declared.program.Declaration.{Declaration}
 use Rattle.class_fault.specs.declared.program.Program.{Program}
-use Rattle.class_fault.specs.Program.{declaration_at, class_named, declares_call}
+use Rattle.class_fault.specs.Program.{declaration_at, declares_call}
 use Rattle.class_fault.specs.Graph.{IsGraph, HasRoots, above_of, superclass_named, named_classes, function_if, applied}
 use Rattle.class_fault.specs.Fault.{IsFirstFrom}
 use Rattle.class_fault.proofs.Graphs.{Among, among_superclass, among_named}
-use Rattle.class_fault.proofs.Acyclic.{superclass_class, mixin_class, interface_class}
+use Rattle.class_fault.proofs.Acyclic.{superclass_class}
 use Rattle.class_table.specs.Program.{IsProgram, IsRoot}
 use Rattle.class_table.proofs.Lists.{some_in}
 

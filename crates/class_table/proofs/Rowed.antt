@@ -1,5 +1,5 @@
 -- Type parameters as arguments, and what a class has from those above it.
-use Rattle.std.proofs.Common.{◌≡◌, ℕ, zero, suc, ◌<◌, ◌+◌, ◌-◌, length, List, [], ◌∷◌, ◌++◌, map, Option, Some, None, arith, refl, sym, ap, ◌∙◌, slice_get}
+use Rattle.std.proofs.Common.{◌≡◌, ℕ, zero, suc, ◌<◌, ◌+◌, ◌-◌, length, List, [], ◌∷◌, ◌++◌, Some, None, arith, refl, ap, ◌∙◌, slice_get}
 use Rattle.dart_ir.specs.declared.types.TypeRef.{TypeRef, Param, Class}
 use Rattle.dart_ir.specs.declared.class.ClassInfo.{ClassInfo}
 use Rattle.dart_ir.specs.Ty.{Ty, class, parameter, dynamic, bottom, void, function, nil, cons, ty, tys}

@@ -1,5 +1,5 @@
 -- The supertypes of a row stand before it, and are formed.
-use Rattle.std.proofs.Common.{◌≡◌, ℕ, zero, suc, ◌<◌, ◌≤◌, ◌+◌, ◌-◌, ◌==◌, List, [], ◌∷◌, ◌++◌, inl, inr, Bool, true, false, cond, length, map, All, get_or, Option, Some, None, slice_get, arith, refl, sym, ap, ◌∙◌, subst as transport}
+use Rattle.std.proofs.Common.{◌≡◌, ℕ, zero, suc, ◌<◌, ◌≤◌, ◌+◌, ◌-◌, ◌==◌, List, [], ◌∷◌, inl, inr, Bool, true, false, cond, length, get_or, Option, Some, None, slice_get, arith, refl, sym, ap, ◌∙◌, subst as transport}
 use Rattle.std.proofs.lemmas.Bool.{cases_eq}
 use Rattle.class_order.specs.declared.header.Header.{Header}
 use Rattle.class_order.specs.declared.rows.Row.{Row}
@@ -10,8 +10,8 @@ use Rattle.dart_ir.specs.declared.class.Classes.{Classes}
 use Rattle.class_fault.specs.declared.program.HeaderType.{HeaderType}
 use Rattle.class_fault.specs.declared.program.Declaration.{Declaration}
 use Rattle.class_fault.specs.declared.program.Program.{Program}
-use Rattle.class_fault.specs.Program.{declaration_at, class_named, declares_call}
-use Rattle.class_fault.specs.Graph.{IsGraph, above_of, superclass_named, named_classes, function_if, applied}
+use Rattle.class_fault.specs.Program.{declaration_at, class_named}
+use Rattle.class_fault.specs.Graph.{IsGraph, above_of, superclass_named, applied}
 use Rattle.class_fault.specs.Fault.{IsFirstFrom}
 use Rattle.class_fault.proofs.Graphs.{Among, among_superclass, among_mixins, among_interfaces, among_named}
 use Rattle.class_fault.proofs.Acyclic.{superclass_class, mixin_class, interface_class}

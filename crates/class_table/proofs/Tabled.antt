@@ -1,5 +1,5 @@
 -- The table of a program's rows is valid.
-use Rattle.std.proofs.Common.{◌≡◌, ℕ, zero, suc, ◌<◌, ◌≤◌, ◌+◌, ◌-◌, ◌⊎◌, ◌&&◌, ◌||◌, ◌==◌, List, [], ◌∷◌, ◌++◌, inl, inr, Bool, true, false, cond, length, map, take, All, option_map, Option, Some, None, IsSome, slice_get, get_or, arith, refl, sym, ap, ◌∙◌, subst as transport}
+use Rattle.std.proofs.Common.{◌≡◌, ℕ, zero, suc, ◌<◌, ◌≤◌, ◌+◌, ◌-◌, ◌⊎◌, ◌&&◌, ◌||◌, List, [], ◌∷◌, ◌++◌, inl, inr, Bool, true, false, cond, length, map, take, All, option_map, Option, Some, None, IsSome, slice_get, get_or, arith, refl, sym, ap, ◌∙◌, subst as transport}
 use Rattle.std.proofs.lemmas.Bool.{cases_eq}
 use Rattle.std.proofs.lemmas.List.{length_push, length-map}
 use Rattle.std.proofs.lemmas.Option.{same_Some, slice_get_within}
@@ -17,7 +17,7 @@ use Rattle.class_fault.specs.declared.program.HeaderType.{HeaderType}
 use Rattle.class_fault.specs.declared.program.Declaration.{Declaration}
 use Rattle.class_fault.specs.declared.program.Program.{Program}
 use Rattle.class_fault.specs.Program.{declaration_at, declares_call}
-use Rattle.class_fault.specs.Graph.{IsGraph, above_of, superclass_named, named_classes, function_if, applied}
+use Rattle.class_fault.specs.Graph.{IsGraph, above_of, function_if, applied}
 use Rattle.class_fault.specs.Fault.{IsFirstFrom}
 use Rattle.class_fault.proofs.Graphs.{Among, among_function}
 use Rattle.class_table.specs.Program.{IsProgram, parameters_in, IsFormedIn, IsBoundFormedIn}

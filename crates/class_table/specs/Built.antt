@@ -1,5 +1,5 @@
 -- What a table of classes is of a program, and when a program has none.
-use Rattle.std.specs.Prelude.{◌≡◌, ℕ, List, length, Option, Some, None, slice_index}
+use Rattle.std.specs.Prelude.{◌≡◌, ℕ, List, length, Some, None, slice_index}
 use Rattle.class_order.specs.declared.header.Header.{Header}
 use Rattle.class_order.specs.declared.rows.Row.{Row}
 use Rattle.class_order.specs.Rows.{AreRows}

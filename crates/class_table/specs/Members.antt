@@ -1,6 +1,6 @@
 -- The instance members of the rows: those that the class declares, or those of the mixin that the row applies, with the type
 -- arguments put in that the header gives it.
-use Rattle.std.specs.Prelude.{◌≡◌, ℕ, ◌<◌, ◌≤◌, List, [], Bool, length, map, option_map, take, Option, Some, None, slice_get}
+use Rattle.std.specs.Prelude.{◌≡◌, ℕ, ◌<◌, ◌≤◌, ◌+◌, List, [], ◌∷◌, Bool, length, map, option_map, take, Option, Some, None, slice_get}
 use Rattle.dart_base.specs.declared.place.Place.{Place}
 use Rattle.dart_ir.specs.Ty.{Ty, Tys, class, ty, function_ty}
 use Rattle.dart_ir.specs.declared.number.MemberId.{MemberId}
@@ -83,7 +83,12 @@ abbrev pub row_members : List MemberInfo → List ClassInfo → List ℕ → ℕ
 row_members ms is ns c i None = map (λ m. Some (declared_in ns c m)) i.members.items
 row_members ms is ns c i (Some t) = mixin_members ms is c (renumbered ns (ty t.of))
 
--- the members of the first n rows, of which there are these classes
+-- how many members some classes have
+abbrev pub member_count : List ClassInfo → ℕ
+member_count [] = 0
+member_count (info ∷ is) = length info.members.items + member_count is
+
+-- The members of the first n rows, of which there are these classes. They are numbered row by row, and there are no others.
 pub record AreMembers (p : Program) (ns : List ℕ) (rs : List Row) (n : ℕ) (is : List ClassInfo) (ms : List MemberInfo) : Type 0 where
   pub listed : (c : ℕ) (info : ClassInfo) → slice_get is c ≡ Some info → (j : ℕ) (m : MemberId)
       → slice_get info.members.items j ≡ Some m → m.0 < length ms
@@ -91,11 +96,15 @@ pub record AreMembers (p : Program) (ns : List ℕ) (rs : List Row) (n : ℕ) (i
   pub rows : (c : ℕ) (i : Declaration) (info : ClassInfo) → declaration_at p (row_at rs c).class ≡ Some i
       → slice_get is c ≡ Some info → descriptions ms info.members.items
       ≡ row_members ms (take c is) ns c i (slice_get i.mixins.items (row_at rs c).step)
+  pub numbered : (c : ℕ) (info : ClassInfo) → slice_get is c ≡ Some info → (j : ℕ) (m : MemberId)
+      → slice_get info.members.items j ≡ Some m → m.0 ≡ member_count (take c is) + j
+  pub total : length ms ≡ member_count is
 
 -- Means of proof, which no public contract cites: members of row c that are added.
 pub record Adds (old new : List MemberInfo) (ids : List MemberId) (xs : List (Option Described)) (c : ℕ) : Type 0 where
   pub kept : (j : ℕ) → j < length old → slice_get new j ≡ slice_get old j
-  pub longer : length old ≤ length new
+  pub longer : length new ≡ length old + length ids
+  pub numbered : (j : ℕ) (m : MemberId) → slice_get ids j ≡ Some m → m.0 ≡ length old + j
   pub listed : (j : ℕ) (m : MemberId) → slice_get ids j ≡ Some m → m.0 < length new
   pub are : descriptions new ids ≡ xs
   pub owned : (j : ℕ) (x : MemberInfo) → length old ≤ j → slice_get new j ≡ Some x → x.owner.0 ≡ c

@@ -1,10 +1,9 @@
 -- Programs whose class declarations are resolved.
-use Rattle.std.specs.Prelude.{◌≡◌, ℕ, ◌<◌, ◌^◌, List, [], length, Bool, false, Option, Some, None, All, slice_get}
+use Rattle.std.specs.Prelude.{◌≡◌, ℕ, ◌<◌, ◌^◌, [], length, false, Option, Some, None, All}
 use Rattle.dart_ir.specs.declared.types.TypeRef.{TypeRef}
 use Rattle.dart_ir.specs.Ty.{Ty, Tys, NamedTys, class, parameter, function, nil, cons, unnamed, named, ty, function_ty}
 use Rattle.dart_ir.specs.Classes.{count, ArePlain}
 use Rattle.class_fault.specs.declared.program.HeaderType.{HeaderType}
-use Rattle.class_fault.specs.declared.program.Member.{Member}
 use Rattle.class_fault.specs.declared.program.Declaration.{Declaration}
 use Rattle.class_fault.specs.declared.program.Program.{Program}
 use Rattle.class_fault.specs.Program.{declaration_at, declares_call}

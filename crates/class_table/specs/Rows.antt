@@ -1,11 +1,10 @@
 -- The rows of a table of classes, as the declarations have them.
-use Rattle.std.specs.Prelude.{◌≡◌, ℕ, zero, suc, ◌+◌, ◌-◌, ◌==◌, ◌&&◌, ◌||◌, ◌⊎◌, List, [], ◌∷◌, ◌++◌, Bool, true, false, cond, length, map, take, Option, Some, None, IsSome, slice_get, slice_index}
+use Rattle.std.specs.Prelude.{◌≡◌, ℕ, zero, suc, ◌+◌, ◌-◌, ◌==◌, ◌&&◌, ◌||◌, List, [], ◌∷◌, ◌++◌, Bool, true, false, cond, length, map, take, Option, Some, None, slice_get, slice_index}
 use Rattle.dart_base.specs.declared.place.Place.{Place}
 use Rattle.dart_ir.specs.declared.number.DeclId.{DeclId}
-use Rattle.dart_ir.specs.declared.types.TypeRef.{TypeRef}
 use Rattle.dart_ir.specs.declared.class.ClassInfo.{ClassInfo}
 use Rattle.dart_ir.specs.Ty.{Ty, Tys, class, parameter, nil, cons, ty}
-use Rattle.dart_ir.specs.Classes.{direct_supertypes, with_superclass}
+use Rattle.dart_ir.specs.Classes.{with_superclass}
 use Rattle.class_order.specs.declared.rows.Row.{Row}
 use Rattle.class_order.specs.Rows.{row_at}
 use Rattle.class_fault.specs.declared.program.HeaderType.{HeaderType}

@@ -1,4 +1,4 @@
-use Rattle.std.proofs.Common.{◌≡◌, ◌≤◌, ◌+◌, ◌++◌, ◌∷◌, [], take, List, map, length, Option, Some, refl, sym, ap, ◌∙◌, subst as transport}
+use Rattle.std.proofs.Common.{◌≡◌, ◌≤◌, ◌+◌, ◌++◌, ◌∷◌, [], take, List, map, length, Some, refl, sym, ap, subst as transport}
 use Rattle.std.proofs.lemmas.List.{take_all}
 use Rattle.class_fault.specs.declared.program.Member.{Member}
 use Rattle.class_table.specs.Members.{Described, described, declared_in, Adds}

@@ -1,4 +1,4 @@
-use Rattle.std.proofs.Common.{◌<◌, map, length, refl, sym, ap, ◌∙◌, subst as transport}
+use Rattle.std.proofs.Common.{map, length, refl, sym, ap, ◌∙◌, subst as transport}
 use Rattle.std.proofs.lemmas.Option.{slice_get_read}
 use Rattle.dart_ir.specs.Ty.{ty}
 use Rattle.dart_ir.specs.declared.class.ClassInfo.{ClassInfo}
