@@ -26,7 +26,8 @@ use Rattle.class_source.specs.Resolved.{IsResolved}
 use Rattle.class_source.specs.View as shown
 use Rattle.class_source.specs.View.{IsSource}
 use Rattle.class_source.proofs.Declared.{rows_formed}
-use Rattle.class_reader.specs.Roots.{IsRoot, HasRoots, AreFew}
+use Rattle.std.proofs.lemmas.Option.{same_Some}
+use Rattle.class_reader.specs.Roots.{HasRoot, HasRoots, AreFew}
 use Rattle.class_reader.proofs.Formed.{AreCounted, type_formed, header_formed}
 
 -- ---- elements
@@ -133,15 +134,6 @@ no_method texts call (m ∷ ms) named none =
     (method_is m.role (right_true (m.name.0 == call.0) (is_method m.role) is)))
     (no_method texts call ms named (λ j x is. none (suc j) x is))
 
-root_in : (texts : List Text) (p : Program) (i : Declaration) → text_at texts p.call.0 ≡ codes "call" → IsRoot (shown.class texts i) → table.IsRoot p i
-root_in texts p i named root = record {
-  parameters = sym (length-map i.bounds.items (shown.bound texts)) ∙ root.parameters;
-  superclass = no_superclass texts i.superclass root.superclass;
-  mixins = none_seen (shown.header_type texts) i.mixins.items root.mixins;
-  interfaces = none_seen (shown.header_type texts) i.interfaces.items root.interfaces;
-  call = no_method texts p.call i.members.items named root.call;
-}
-
 -- the first class of a name is at no earlier place
 called_low : (library : ℕ) (name : Text) (n : ℕ) (xs : List r.Class) → n ≤ class_called library name n xs
 called_low library name n [] = omega arith
@@ -170,11 +162,11 @@ called_named library name n (x ∷ xs) (suc k) c called is =
     later true rest same = absurd (omega (arith, same))
     later false rest same = rest (omega (arith, same))
 
-two_roots : (given : Given) (units : List SourceUnit) → HasRoots (classes_of given units) → (classes_of given units).object ≡ (classes_of given units).function → ⊥
-two_roots given units roots same =
+two_roots : (given : Given) (units : List SourceUnit) → (classes_of given units).object < length (unit_classes given 0 units) → (classes_of given units).object ≡ (classes_of given units).function → ⊥
+two_roots given units has_object same =
     let all = unit_classes given 0 units in
     let library = core_library units in
-    let found = element all (classes_of given units).object roots.has_object in
+    let found = element all (classes_of given units).object has_object in
     let object : found.0.name ≡ codes "Object" =
     called_named library (codes "Object") 0 all (classes_of given units).object found.0 (sym (zero-add (classes_of given units).object)) found.1 in
     let function : found.0.name ≡ codes "Function" =
@@ -189,8 +181,15 @@ few_at : (p : Program) (d : ℕ) (i : Declaration) → AreFew p → declaration_
 few_at p d i few is = subst (λ (x : Declaration). length x.bounds.items < 2 ^ 32) (get_or_from_slice_get p.declarations.items d i i is)
     (few d i (slice_get_within p.declarations.items d i is))
 
+-- a class that is declared so
+pub rooted : (p : Program) (n : ℕ) (i : Declaration) → slice_get p.declarations.items n ≡ Some i → table.IsRoot p i → HasRoot p n
+rooted p n i is root = record {
+  declared = slice_get_within p.declarations.items n i is;
+  root = λ j also. subst (λ (x : Declaration). table.IsRoot p x) (same_Some i j (sym is ∙ also)) root;
+}
+
 pub is_program : (given : Given) (units : List SourceUnit) (texts : List Text) (p : Program) → IsSource given units texts p → IsResolved given units →
-    HasRoots (classes_of given units) → AreFew p → table.IsProgram p
+    HasRoots p → AreFew p → table.IsProgram p
 is_program given units texts p source resolved roots few =
     let all = unit_classes given 0 units in
     let same : length all ≡ length p.declarations.items = size given units texts p source in
@@ -198,11 +197,10 @@ is_program given units texts p source resolved roots few =
       declarations = λ d i is. declaration_in texts given.tables p i (counted given units texts p source resolved) (few_at p d i few is)
           (subst (λ (k : ℕ). formed.IsRowFormed given.tables k (shown.class texts i)) same
           (rows_formed given units resolved d (shown.class texts i) (row_at given units texts p source d i is)));
-      has_object = let below = roots.has_object in let at = source.object in omega (arith, below, at, same);
-      has_function = let below = roots.has_function in let at = source.function in omega (arith, below, at, same);
-      object = λ i is. root_in texts p i source.call (roots.object (shown.class texts i)
-          (ap (λ (k : ℕ). slice_get all k) (sym source.object) ∙ row_at given units texts p source p.object i is));
-      function = λ i is. root_in texts p i source.call (roots.function (shown.class texts i)
-          (ap (λ (k : ℕ). slice_get all k) (sym source.function) ∙ row_at given units texts p source p.function i is));
-      two = λ is. two_roots given units roots (sym source.object ∙ is ∙ source.function);
+      has_object = roots.object.declared;
+      has_function = roots.function.declared;
+      object = roots.object.root;
+      function = roots.function.root;
+      two = λ is. two_roots given units
+          (let below = roots.object.declared in let at = source.object in omega (arith, below, at, same)) (sym source.object ∙ is ∙ source.function);
     }

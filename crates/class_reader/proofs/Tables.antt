@@ -6,10 +6,9 @@ use Rattle.class_size.specs.Built.{IsSized}
 use Rattle.class_size.specs.declared.build.ClassFault.{ClassFault}
 use Rattle.translation.specs.Surroundings.{Text}
 use Rattle.class_source.specs.Source.{SourceUnit, Given}
-use Rattle.class_source.specs.View.{IsSource}
-use Rattle.class_reader.specs.Built.{IsBuiltFrom}
+use Rattle.class_reader.specs.Built.{IsBuiltFrom, IsRead}
 
-pub built_from : (given : Given) (units : List SourceUnit) (texts : List Text) (p : Program) (found : Result Classes ClassFault) → IsSource given units texts p →
+pub built_from : (given : Given) (units : List SourceUnit) (texts : List Text) (p : Program) (found : Result Classes ClassFault) → IsRead given units texts p →
     IfOk found (λ k. IsSized p k) → IfOk found (λ k. IsBuiltFrom given units texts k)
-built_from given units texts p (Ok k) source sized = (p, source, sized)
-built_from given units texts p (Err fault) source sized = tt
+built_from given units texts p (Ok k) read sized = (p, read, sized)
+built_from given units texts p (Err fault) read sized = tt
