@@ -1,0 +1,7 @@
+mod Like
+mod Graphs
+mod Faults
+mod Rows
+mod Sizes
+mod Declared
+pub mod Laws
