@@ -1,11 +1,13 @@
 -- The names of a program: the texts by which its units may call something, in the order in which they get numbers (16.33
--- Identifier Reference, 6.2 Privacy).
-use Rattle.std.specs.Prelude.{ℕ, List, [], ◌∷◌, fold, map, if◌then◌else◌}
-use Rattle.std.specs.Str.{is_utf8}
+-- Identifier Reference, 16.5.1 String Interpolation, 6.2 Privacy).
+use Rattle.std.specs.Prelude.{ℕ, ◌==◌, List, [], ◌∷◌, fold, map, if◌then◌else◌}
+use Rattle.std.specs.List.{take_while}
+use Rattle.std.specs.Str.{byte, is_utf8}
 use Rattle.dart_base.specs.Names.{interned}
+use Rattle.dart_pieces.specs.Bytes.{is_name_byte}
 use Rattle.dart_token.specs.declared.token.Token.{Token}
 use Rattle.dart_token.specs.declared.token.TokenKind.{TokenKind}
-use Rattle.dart_token.specs.declared.token.TokenKind.TheVariants.{Identifier}
+use Rattle.dart_token.specs.declared.token.TokenKind.TheVariants.{Head, Identifier, Middle, Tail, Whole}
 use Rattle.dart_tree.specs.Unit.{UnitTree}
 use Rattle.dart_tree.specs.UnitTokens.{unit_tokens}
 use Rattle.scope_declared.specs.Number.{name_text}
@@ -16,14 +18,33 @@ abbrev pub with_text : List (List ℕ) → List ℕ → List (List ℕ)
 with_text names text = if is_utf8 text then interned names text else names
 
 -- an identifier gives its text, a private one with the library's number
+abbrev pub with_identifier : ℕ → List (List ℕ) → List ℕ → List (List ℕ)
+with_identifier library names text = with_text names (name_text library text)
+
+-- and so does what stands behind a `$`, where it isn't empty
+abbrev pub with_shown : ℕ → List (List ℕ) → List ℕ → List (List ℕ)
+with_shown library names [] = names
+with_shown library names (b ∷ bytes) = with_identifier library names (b ∷ bytes)
+
+-- The names in a piece of a string: behind each `$` all bytes up to the first that a name can't have. Escapes and raw strings
+-- aren't told apart, since a name too many in the table harms nothing.
+abbrev pub with_piece : ℕ → List (List ℕ) → List ℕ → List (List ℕ)
+with_piece library names [] = names
+with_piece library names (b ∷ bytes) = with_piece library
+    (if b == byte "$" then with_shown library names (take_while is_name_byte bytes) else names) bytes
+
 abbrev pub with_lexeme : ℕ → List (List ℕ) → List ℕ → TokenKind → List (List ℕ)
-with_lexeme library names text Identifier = with_text names (name_text library text)
+with_lexeme library names text Identifier = with_identifier library names text
+with_lexeme library names text Whole = with_piece library names text
+with_lexeme library names text (Head quote) = with_piece library names text
+with_lexeme library names text Middle = with_piece library names text
+with_lexeme library names text Tail = with_piece library names text
 with_lexeme library names text _ = names
 
 abbrev pub with_token : ℕ → List (List ℕ) → Token → List (List ℕ)
 with_token library names token = with_lexeme library names token.lexeme token.kind
 
--- the identifiers of a unit in the order of its tokens
+-- the identifiers of a unit, and the names in its strings, in the order of its tokens
 unfoldable pub with_unit : ℕ → List (List ℕ) → UnitTree → List (List ℕ)
 with_unit library names unit = fold (with_token library) names (unit_tokens unit)
 

@@ -1,4 +1,5 @@
 // The names of the units of a program.
 #![tactic(auto)]
 
+mod shown;
 pub mod table;

@@ -1,9 +1,12 @@
 // The table of the names of a program.
 ghost use Rattle.std.specs.Prelude.{◌≡◌, ◌++◌, [], IfOk, OnOk, fold, map, codes, decimal};
+ghost use Rattle.std.specs.List.{take_while};
+ghost use Rattle.dart_pieces.specs.Bytes.{is_name_byte};
 ghost use Rattle.dart_tree.specs.UnitView as view;
-ghost use Rattle.scope_declared.specs.Number.{is_private, name_text};
-ghost use Rattle.scope_name.specs.Names.{given_names, names_of, with_text, with_token, with_unit, with_units};
+ghost use Rattle.scope_declared.specs.Number.{is_private};
+ghost use Rattle.scope_name.specs.Names.{given_names, names_of, with_identifier, with_piece, with_shown, with_text, with_token, with_unit, with_units};
 
+use crate::shown::name_at_front;
 use dart_base::names::Names;
 use dart_token::token::{Token, TokenKind};
 use dart_tree::unit::Unit;
@@ -13,8 +16,11 @@ use std::str::from_utf8;
 
 /// What a table of names has first, so that each of these has one number in all programs: the operators (ECMA-408, 10.1.1
 /// Operators), the built-in identifiers that may name something (16.33 Identifier Reference), what a class has that stands
-/// for an enum (13 Enums), and what is asked for by name.
-pub const GIVEN: [&str; 29] = [
+/// for an enum (13 Enums), and what is asked for by name. Then comes what translation asks for and a program need not spell:
+/// the name of a function literal, which is empty (16.10 Function Expressions), the parameter of the setter that a variable
+/// has (8 Variables), the type `dynamic` where an object of it is to be made (16.12 Instance Creation), and the operators that
+/// no class declares.
+pub const GIVEN: [&str; 37] = [
     "unary-",
     "[]",
     "[]=",
@@ -44,6 +50,14 @@ pub const GIVEN: [&str; 29] = [
     "call",
     "main",
     "noSuchMethod",
+    "",
+    "v",
+    "dynamic",
+    "!",
+    "!=",
+    "&&",
+    "||",
+    ">>=",
 ];
 
 // Gives the text a number. A table that has all the numbers there are is too large for memory.
@@ -86,7 +100,7 @@ fn add_identifier(
     library: u32,
     text: &[u8],
 ) -> Result<(), AllocError>
-    ensures { OnOk result (names.new ≡ with_text names.old (name_text library text.now)) }
+    ensures { OnOk result (names.new ≡ with_identifier library names.old text.now) }
 {
     if is_private(text) {
         let private = private_text(alloc, library, text)?;
@@ -94,6 +108,28 @@ fn add_identifier(
     } else {
         add_text(names, text)
     }
+}
+
+// Gives the name that a text behind a `$` begins with, if there is one, a number.
+fn add_shown(alloc: Global, names: &mut Names, library: u32, text: &[u8]) -> Result<(), AllocError>
+    ensures { OnOk result (names.new ≡ with_shown library names.old (take_while is_name_byte text.now)) }
+{
+    match name_at_front(text) {
+        [] => Ok(()),
+        name => add_identifier(alloc, names, library, name),
+    }
+}
+
+// Gives each name in a piece of a string a number.
+fn add_piece(alloc: Global, names: &mut Names, library: u32, text: &[u8]) -> Result<(), AllocError>
+    ensures { OnOk result (names.new ≡ with_piece library names.old text.now) }
+{
+    for (index, b) in text.iter().enumerate() {
+        if *b == b'$' {
+            add_shown(alloc, names, library, &text[index + 1..])?;
+        }
+    }
+    Ok(())
 }
 
 fn add_token(
@@ -106,17 +142,14 @@ fn add_token(
 {
     match token.kind {
         TokenKind::Identifier => add_identifier(alloc, names, library, token.lexeme.as_slice()),
-        TokenKind::Word(_)
-        | TokenKind::Integer
-        | TokenKind::Whole
-        | TokenKind::Head(_)
-        | TokenKind::Middle
-        | TokenKind::Tail
-        | TokenKind::Sign(_) => Ok(()),
+        TokenKind::Whole | TokenKind::Head(_) | TokenKind::Middle | TokenKind::Tail => {
+            add_piece(alloc, names, library, token.lexeme.as_slice())
+        }
+        TokenKind::Word(_) | TokenKind::Integer | TokenKind::Sign(_) => Ok(()),
     }
 }
 
-// Gives the identifiers of a unit of the library numbers.
+// Gives the identifiers of a unit of the library, and the names in its strings, numbers.
 #[tactic(auto, unfolding(crate::specs::Names::with_unit))]
 fn add_unit(alloc: Global, names: &mut Names, library: u32, unit: &Unit) -> Result<(), AllocError>
     ensures { OnOk result (names.new ≡ with_unit library names.old (view.unit unit.now)) }
@@ -168,8 +201,9 @@ fn given(alloc: Global) -> Result<Names, AllocError>
 }
 
 /// The names of a program with these units, each of which belongs to the library of the number beside it (ECMA-408, 6.2
-/// Privacy, 16.33 Identifier Reference): what every table has, and then the identifiers in the order of units and tokens. A
-/// private one has `@` and the library's number behind it. What stands in a string is no name here.
+/// Privacy, 16.33 Identifier Reference): what every table has, and then the identifiers, and the names that stand in strings
+/// behind a `$` (16.5.1 String Interpolation), in the order of units and tokens. A private one has `@` and the library's number
+/// behind it. In a raw string, or escaped, `$` counts too.
 pub fn names_of(alloc: Global, homes: &[u32], units: &[Unit]) -> Result<Names, AllocError>
     ensures { IfOk result (λ names. names ≡ names_of homes.now (map view.unit units.now)) }
 {
