@@ -19,8 +19,8 @@ use scope_load::loaded::Loaded;
 use scope_space::spaces::Spaces;
 use std::alloc::{AllocError, Global};
 
-// The numbered declarations of units, each as one of the library of the number that `homes` has for it.
-fn numbered_in(
+/// The numbered declarations of units, each as one of the library of the number that `homes` has for it.
+pub fn numbered_in(
     alloc: Global,
     names: &Names,
     homes: &[u32],
@@ -34,8 +34,8 @@ fn numbered_in(
     Ok(found)
 }
 
-// The libraries of loaded units, with their namespaces, from the numbered declarations.
-fn spaces_of(
+/// The libraries of loaded units, with their namespaces, from the numbered declarations (ECMA-408, 18 Libraries and Scripts).
+pub fn spaces_of(
     alloc: Global,
     names: &Names,
     numbered: &[Declared],

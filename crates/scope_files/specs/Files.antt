@@ -5,13 +5,14 @@ use Rattle.std.specs.Option.{option_map}
 use Rattle.dart_edge.specs.Files.{Files, file_of}
 use Rattle.dart_prelude.specs.declared.texts.TheConstants.{CORE, ISOLATE}
 use Rattle.scope_files.specs.Texts.{TextGives}
+use Rattle.scope_files.specs.declared.check.Checked.{Checked}
+use Rattle.scope_files.specs.declared.check.Checked.TheVariants.{Sound, Against}
 use Rattle.scope_load.specs.declared.reason.LoadFault.{LoadFault}
 use Rattle.scope_load.specs.declared.units.UnitName.{UnitName}
 use Rattle.scope_load.specs.declared.units.UnitName.TheVariants as n
 use Rattle.scope_load.specs.Found.{FoundIs, absent, refused, read}
 use Rattle.scope_load.specs.Load.{Loads, Stops}
-use Rattle.scope_load.specs.State.{State}
-use Rattle.scope_reason.specs.declared.reason.ProgramReason.{ProgramReason}
+use Rattle.scope_load.specs.State.{State, state_of}
 use Rattle.scope_reason.specs.Reason.{program_reason}
 
 -- what the bytes of a file give, or its absence
@@ -38,8 +39,13 @@ GivesText number name text gives = ((IsUtf8 name → ⊥) × (gives ≡ absent))
 abbrev pub known : List ℕ → List ℕ → Option Files → Option Files
 known name text told = option_map (λ files. (name, text) ∷ files) told
 
--- What an answer says of the program with this root: all its units are loaded, and this is the first reason against them as a
--- whole, or there is none; or they aren't loaded for this reason.
-abbrev pub Checks : Option Files → List ℕ → Result (Option ProgramReason) LoadFault → Type 0
-Checks told root (Ok reason) = (state : State) × Loads (NameGives told) root state × (reason ≡ program_reason state)
+-- What is found of the units of a state: these, with nothing against them, or the first reason against them as a whole.
+abbrev pub Found : State → Checked → Type 0
+Found state (Sound loaded) = (state_of loaded ≡ state) × (program_reason state ≡ None)
+Found state (Against reason) = program_reason state ≡ Some reason
+
+-- What an answer says of the program with this root: all its units are loaded, and this is found of them; or they aren't loaded
+-- for this reason.
+abbrev pub Checks : Option Files → List ℕ → Result Checked LoadFault → Type 0
+Checks told root (Ok checked) = (state : State) × Loads (NameGives told) root state × Found state checked
 Checks told root (Err fault) = Stops (NameGives told) root fault

@@ -1,10 +1,9 @@
-// The first reason against the files of a program.
+// The first reason against the files of a program, or its units.
 ghost use Rattle.std.specs.Prelude.{◌≡◌, ◌<◌, ◌^◌, IfErr, IfOk, false, length};
 ghost use Rattle.dart_edge.specs.Fault.{Counts};
-ghost use Rattle.scope_files.specs.Files.{Checks, known};
+ghost use Rattle.scope_files.specs.Files.{Checks, Found, known};
 ghost use Rattle.scope_load.specs.Load.{load_failed};
 ghost use Rattle.scope_load.specs.State.{state_of};
-ghost use Rattle.scope_reason.specs.Reason.{program_reason};
 
 use crate::reader::RootReader;
 use dart_edge::source::Sources;
@@ -14,28 +13,38 @@ use scope_load::reason::LoadFault;
 use scope_reason::reason::{ProgramReason, first_reason};
 use std::alloc::Global;
 
-// The first reason against units that are all loaded, which are let go.
-fn check_whole(alloc: Global, loaded: Loaded) -> Result<Option<ProgramReason>, LoadFault>
+/// What is found of units that are all loaded.
+#[derive(Drop)]
+pub enum Checked {
+    /// Nothing is against them.
+    Sound(Loaded),
+    /// This is the first reason against them as a whole.
+    Against(ProgramReason),
+}
+
+// Units that are all loaded, or the first reason against them, and then they are let go.
+fn check_whole(alloc: Global, loaded: Loaded) -> Result<Checked, LoadFault>
     requires { length loaded.units.items < 2 ^ 32 }
-    ensures reason { IfOk result (λ reason. reason ≡ program_reason (state_of loaded)) }
+    ensures found { IfOk result (λ checked. Found (state_of loaded) checked) }
     ensures fault { IfErr result (λ fault. fault ≡ LoadFault.Memory) }
     ensures failed { load_failed result ≡ false }
 {
     match first_reason(alloc, &loaded) {
-        Ok(reason) => Ok(reason),
+        Ok(None) => Ok(Checked::Sound(loaded)),
+        Ok(Some(reason)) => Ok(Checked::Against(reason)),
         Err(_) => Err(LoadFault::Memory),
     }
 }
 
-/// The first reason against the program whose root has this name and text (ECMA-408, 18 Libraries and Scripts): an `Err` where
-/// its units aren't loaded, else the reason against them as a whole, if there is one. Each other file is read once, and all
-/// units are let go.
+/// The units of the program whose root has this name and text (ECMA-408, 18 Libraries and Scripts), where nothing is against
+/// them: an `Err` where they aren't loaded, else the first reason against them as a whole, if there is one. Each other file is
+/// read once.
 pub fn check<S: Sources>(
     alloc: Global,
     root: &[u8],
     text: &[u8],
     sources: &mut S,
-) -> Result<Option<ProgramReason>, LoadFault>
+) -> Result<Checked, LoadFault>
     ensures answer { Checks (known root.now text.now (S.files sources.old)) root.now result }
     ensures same { S.files sources.new ≡ S.files sources.old }
     ensures cause { Counts (load_failed result) (S.faults sources.old) (S.faults sources.new) }

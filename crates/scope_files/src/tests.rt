@@ -1,7 +1,7 @@
 // Programs over files in memory.
 mod whole;
 
-use crate::check::check;
+use crate::check::{Checked, check};
 use crate::reader::FileReader;
 use dart_base::bytes::Bytes;
 use dart_edge::memory::{MemSources, NoFaultSources};
@@ -121,7 +121,7 @@ fn text_at_hand(rt: HostRuntime) -> Result<(), Fail> {
         b"import 'b.dart'; main() {}",
         &mut sources,
     ) {
-        Ok(None) => Ok(()),
-        Ok(Some(_)) | Err(_) => Err(Fail::from("refused")),
+        Ok(Checked::Sound(_)) => Ok(()),
+        Ok(Checked::Against(_)) | Err(_) => Err(Fail::from("refused")),
     }
 }

@@ -1,6 +1,6 @@
 // The reasons against programs whose units are all loaded.
 use super::{File, pairs};
-use crate::check::check;
+use crate::check::{Checked, check};
 use dart_edge::memory::NoFaultSources;
 use scope_load::units::UnitName;
 use scope_reason::reason::ProgramReason;
@@ -27,8 +27,8 @@ fn shown_reason(alloc: Global, reason: &ProgramReason) -> Result<String, AllocEr
 fn found_with(alloc: Global, text: &str, files: &[File]) -> Result<String, AllocError> {
     let mut sources = NoFaultSources::new(alloc, pairs(alloc, files)?);
     match check(alloc, b"a.dart", text.as_bytes(), &mut sources) {
-        Ok(None) => String::from_str(alloc, "none"),
-        Ok(Some(reason)) => shown_reason(alloc, &reason),
+        Ok(Checked::Sound(_)) => String::from_str(alloc, "none"),
+        Ok(Checked::Against(reason)) => shown_reason(alloc, &reason),
         Err(_) => String::from_str(alloc, "not loaded"),
     }
 }
