@@ -1,0 +1,5 @@
+mod Lists
+mod Alike
+mod Over
+mod Named
+pub mod Scoped

@@ -1,0 +1,4 @@
+// That the names of a program mean one thing.
+#![tactic(auto)]
+
+pub mod law;
