@@ -1,0 +1,4 @@
+pub mod Nothing
+pub mod Inner
+pub mod Forwarding
+pub mod Constructing

@@ -1,0 +1,4 @@
+pub mod Placing
+pub mod Law
+pub mod Rowed
+pub mod Typed
