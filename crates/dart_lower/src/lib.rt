@@ -1,0 +1,6 @@
+// A loaded program is translated.
+#![tactic(auto)]
+
+pub mod copy;
+pub mod lower;
+pub mod unit;

@@ -1,0 +1,10 @@
+use Rattle.std.proofs.Common.{◌≡◌, [], map}
+use Rattle.lower_leaf.specs.Around.{Around, text}
+use Rattle.lower_leaf.specs.Seen as seen
+use Rattle.lower_program.specs.Views.{function_slot}
+use Rattle.lower_core.specs.Runnable as runnable
+use Rattle.lower_core.proofs.table.functions_of.Given as goal
+
+abbrev pub invariant-loop-slot : goal.invariant-loop-slot
+invariant-loop-slot l = (a : Around) → text a l.nameless ≡ [] →
+    map (seen.function a) l.made.items ≡ map runnable.function (map (function_slot a) l.yielded)

@@ -1,0 +1,6 @@
+// The core of a program as a machine takes it.
+#![tactic(auto)]
+
+pub mod program;
+pub mod slot;
+pub mod table;

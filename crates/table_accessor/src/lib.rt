@@ -1,0 +1,4 @@
+// The numbers of implicit accessors in a table of classes.
+#![tactic(auto)]
+
+pub mod number;
