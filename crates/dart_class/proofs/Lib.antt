@@ -1,0 +1,5 @@
+pub mod Classes
+pub mod Same
+pub mod Rows
+pub mod Units
+pub mod Built
