@@ -1,0 +1,4 @@
+pub mod Alike
+pub mod OneRun
+pub mod Runs
+pub mod Stripped

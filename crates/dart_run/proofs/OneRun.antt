@@ -1,0 +1,79 @@
+-- A program has one run within a budget.
+use Rattle.std.proofs.Common.{◌≡◌, ℕ, map, sym, ap, ◌∙◌}
+use Rattle.std.specs.Prelude.{Option, None, option_map}
+use Rattle.std.proofs.lemmas.Simd.{map-map}
+use Rattle.core_program.specs.declared.program.CoreProgram.{CoreProgram}
+use Rattle.core_program.specs.Program.{Class, Program}
+use Rattle.core_program.specs.ProgramView as v
+use Rattle.dart_native.specs.Native as n
+use Rattle.native_object.specs.Shown as shown
+use Rattle.evaluation.specs.Turn.{Turn, Budget, new_isolate}
+use Rattle.machine_frame.specs.declared.around.Around.{Around}
+use Rattle.machine_frame.specs.Natives.{natives, native_steps, native_end, read_of, end_of}
+use Rattle.machine_frame.specs.Outside.{known_of, setting_of}
+use Rattle.machine_turn.specs.Produced.{main_turn}
+use Rattle.dart_run.specs.Written.{written}
+use Rattle.dart_run.specs.Run.{IsRun}
+use Rattle.dart_run.specs.Laws.{RunIsOne}
+use Rattle.dart_run.proofs.Alike.{subtypes_same}
+
+-- ---- two programs that are run for one
+
+module _ (a b : Around) (program_is : v.program a.program.now ≡ v.program b.program.now) (names_is : a.program.now.names ≡ b.program.now.names) (known_is : known_of a.known.now ≡ known_of b.known.now) where
+  class_names_same : map shown.name_number a.program.now.classes.classes.items ≡ map shown.name_number b.program.now.classes.classes.items
+  class_names_same =
+      sym (map-map (λ (c : Class ℕ). c.name) v.class a.program.now.classes.classes.items)
+      ∙ ap (λ (p : Program ℕ). map (λ (c : Class ℕ). c.name) p.classes) program_is
+      ∙ map-map (λ (c : Class ℕ). c.name) v.class b.program.now.classes.classes.items
+
+  read_same : read_of a ≡ read_of b
+  read_same = λ i. record {
+    literals = (program_is i).literals;
+    names = names_is i;
+    class_names = class_names_same i;
+    known = record {
+      null = record { 0 = (known_is i).null_class };
+      boolean = record { 0 = (known_is i).bool_class };
+      integer = record { 0 = (known_is i).int_class };
+      string = record { 0 = (known_is i).string_class };
+      list = record { 0 = (known_is i).list_class };
+      function = record { 0 = (program_is i).function_class };
+      type_class = record { 0 = (known_is i).type_class };
+      send_port = record { 0 = (known_is i).send_port_class };
+      receive_port = record { 0 = (known_is i).receive_port_class };
+    };
+  }
+
+  natives_same : natives a ≡ natives b
+  unfolding native_steps native_end
+  natives_same = λ i. record {
+    steps = λ id vs h. n.steps (read_same i) id vs h;
+    call = λ id ts vs h. end_of (n.native (read_same i) id ts vs h);
+  }
+
+  setting_same : a.isolate ≡ b.isolate → setting_of a ≡ setting_of b
+  setting_same isolate_is = λ i. record {
+    program = program_is i;
+    names = names_is i;
+    known = known_is i;
+    is_subtype = λ t s.
+        subtypes_same b.program.now.classes a.program.now.classes (ap (λ (p : Program ℕ). p.classes) program_is)
+        (ap (λ (p : Program ℕ). p.function_class) program_is) t s i;
+    natives = natives_same i;
+    isolate = isolate_is i;
+    parcel_cost = λ h u. None;
+  }
+
+-- ---- one run
+
+turn_is_one : (x : CoreProgram) (b : Budget) (turn other : Option Turn) → IsRun x b turn → IsRun x b other → turn ≡ other
+turn_is_one x b turn other r s =
+    r.is_turn
+    ∙ ap (λ w. option_map (main_turn w (v.program x) x.names b.depth) (new_isolate (v.program x) b))
+    (setting_same r.around s.around (r.stripped.program ∙ sym s.stripped.program) (r.stripped.names_same ∙ sym s.stripped.names_same)
+    (r.stripped.known_same ∙ sym s.stripped.known_same) (r.first ∙ sym s.first))
+    ∙ sym s.is_turn
+
+pub run_is_one : RunIsOne
+run_is_one x b made other r s =
+    r.is_written ∙ ap (written x.units.items) (turn_is_one x b r.turn s.turn r.is_run s.is_run) ∙ sym s.is_written

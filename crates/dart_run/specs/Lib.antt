@@ -1,0 +1,3 @@
+pub mod Laws
+pub mod Run
+pub mod Written

@@ -1,0 +1,7 @@
+// The run of a program in production.
+#![tactic(auto)]
+
+pub mod known;
+pub mod law;
+pub mod run;
+pub mod written;
