@@ -1,0 +1,49 @@
+-- What the words of a command line mean.
+use Rattle.std.specs.Prelude.{◌==◌, ℕ, List, [], ◌∷◌, Bool, false, not, if◌then◌else◌, Option, Some, None, option_and_then, ⊤, codes}
+use Rattle.std.specs.Str.{byte, bytes_eq}
+use Rattle.dart_words.specs.declared.budget.Given.{Given}
+use Rattle.dart_words.specs.declared.words.Verb.{Verb}
+use Rattle.dart_words.specs.declared.words.Verb.TheVariants.{Run, Erase}
+use Rattle.dart_words.specs.Budget.{IsWithinLimits, budget_of, with_option}
+
+-- a command with its file
+pub record Command : Type 0 where
+  pub verb : Verb
+  pub file : List ℕ
+
+-- a word that names a file: it isn't empty and doesn't begin with `-`
+abbrev pub is_operand : List ℕ → Bool
+is_operand [] = false
+is_operand (first ∷ bytes) = not (first == byte "-")
+
+abbrev pub with_file : Verb → List ℕ → Option Command
+with_file verb file = if is_operand file then Some (record { verb = verb; file = file }) else None
+
+-- no option
+abbrev pub nothing_given : Given
+nothing_given = record { steps = None; units = None }
+
+-- What the words ask that stand behind `run` and options that gave this: a file alone is run, and two words or more begin with
+-- an option and its number.
+abbrev pub run_reading : Given → List (List ℕ) → Option Command
+run_reading given [] = None
+run_reading given (file ∷ []) = with_file (Run (budget_of given)) file
+run_reading given (option ∷ number ∷ words) = option_and_then (λ more. run_reading more words) (with_option given option number)
+
+-- what the words behind `erase` ask
+abbrev pub erase_reading : List (List ℕ) → Option Command
+erase_reading [] = None
+erase_reading (file ∷ []) = with_file Erase file
+erase_reading (file ∷ other ∷ words) = None
+
+-- the command that the words mean, or none
+abbrev pub reading : List (List ℕ) → Option Command
+reading [] = None
+reading (word ∷ words) = if bytes_eq word (codes "run") then run_reading nothing_given words
+    else if bytes_eq word (codes "erase") then erase_reading words
+    else None
+
+-- where the command is a run, its budget is within the limits
+abbrev pub KeepsLimits : Verb → Type 0
+KeepsLimits (Run budget) = IsWithinLimits budget
+KeepsLimits Erase = ⊤

@@ -1,0 +1,7 @@
+// The words of a command line: which command they are, with its options, and of which file.
+#![tactic(auto)]
+
+pub mod budget;
+#[cfg(test)]
+mod tests;
+pub mod words;
