@@ -1,0 +1,215 @@
+-- What becomes of a loaded program is one thing.
+use Rattle.std.proofs.Common.{◌≡◌, ◌∙◌, sym, ap, subst, ℕ, List, map, length, Bool, true, false, inl, inr, arith}
+use Rattle.std.specs.List.{zip}
+use Rattle.std.specs.Option.{option_map}
+use Rattle.std.proofs.lemmas.List.{length-map}
+use Rattle.std.proofs.lemmas.Option.{same_Some}
+use Rattle.std.proofs.lemmas.Simd.{map-map}
+use Rattle.dart_base.specs.Names.{AreDistinct}
+use Rattle.dart_base.specs.declared.place.Place.{Place}
+use Rattle.dart_ir.specs.declared.class.Classes.{Classes}
+use Rattle.class_fault.specs.declared.fault.Fault.{Fault}
+use Rattle.class_fault.specs.declared.program.Program as fault
+use Rattle.class_reader.specs.Built.{IsRead, IsBuiltFrom, IsRefusedIn, IsOverlargeIn}
+use Rattle.class_source.specs.Source.{SourceUnit, Given, classes_of}
+use Rattle.class_source.specs.View as source
+use Rattle.class_within.specs.Built.{IsTableFrom, IsFaultFrom, IsLargeFrom}
+use Rattle.core_names.proofs.Found.{same_numbers}
+use Rattle.core_program.specs.declared.program.CoreProgram.{CoreProgram}
+use Rattle.core_program.specs.Named as named
+use Rattle.core_program.specs.Program as c
+use Rattle.core_program.specs.ProgramView as pv
+use Rattle.dart_class.specs.Given.{class_given, source_units}
+use Rattle.dart_lower.specs.Given.{given_of, source_unit}
+use Rattle.dart_run.specs.Run.{IsRunOf}
+use Rattle.dart_run.specs.declared.written.Written.{Written}
+use Rattle.dart_run.proofs.OneRun.{run_is_one}
+use Rattle.evaluation.specs.Turn.{Budget, new_isolate}
+use Rattle.laws_class.specs.Same.{IsSameTable}
+use Rattle.laws_scope.proofs.Scoped.{one_scoping}
+use Rattle.laws_table.specs.Roots.{DeclaresRoots}
+use Rattle.laws_table.proofs.Laws as table
+use Rattle.lower_program.specs.Views.{library_outer}
+use Rattle.lower_table.specs.Rows.{rows_of, index_of}
+use Rattle.lower_table.specs.Table.{table_around, around_by, meanings_of, source_of}
+use Rattle.core_program.specs.Stripped as stripped
+use Rattle.dart_run.specs.Written.{written}
+use Rattle.evaluation.specs.Prelude.{known}
+use Rattle.machine_frame.specs.Outside.{setting_of}
+use Rattle.machine_turn.specs.Produced.{main_turn}
+use Rattle.scope_load.specs.State.{State}
+use Rattle.scope_program.specs.Program.{Scoping}
+use Rattle.table_accessor.proofs.Equal.{stay_equal}
+use Rattle.translation.specs.Program as p
+use Rattle.translation.specs.Surroundings.{Text}
+use Rattle.dart_execute.specs.declared.execution.Execution.{Execution}
+use Rattle.dart_execute.specs.declared.execution.Execution.TheVariants.{Refused, Ran}
+use Rattle.dart_execute.specs.declared.cause.Cause.TheVariants as cause
+use Rattle.dart_execute.specs.Execution.{mentions_isolate, IsCoreOf, RunsIf, Follows, IsTranslated, IsRefusedBy, IsTooLarge, ExecutesIn, Executes, class_cause}
+
+-- ---- the table of classes
+
+module _ (given : Given) (units : List SourceUnit) (texts : List Text) (distinct : AreDistinct texts) where
+  roots : (q : fault.Program) → IsRead given units texts q → DeclaresRoots (classes_of given units)
+  roots q read =
+      let size : length q.declarations.items ≡ length (classes_of given units).classes =
+      sym (length-map q.declarations.items (source.class texts)) ∙ ap length read.source.classes in
+      let object = read.source.object in
+      let function = read.source.function in
+      let o = read.roots.object.declared in
+      let f = read.roots.function.declared in
+      record { object = omega (arith, size, object, o); function = omega (arith, size, function, f) }
+
+  as_table : (k : Classes) → IsBuiltFrom given units texts k → IsTableFrom given units texts k
+  as_table k (q, read, sized) = (q, read.source, read.within, sized)
+
+  as_fault : (f : Fault) → IsRefusedIn given units texts f → IsFaultFrom given units texts f
+  as_fault f (q, read, refused) = (q, read.source, read.within, refused)
+
+  as_large : (place : Place) → IsOverlargeIn given units texts place → IsLargeFrom given units texts place
+  as_large place (q, read, large) = (q, read.source, read.within, large)
+
+  built_roots : (k : Classes) → IsBuiltFrom given units texts k → DeclaresRoots (classes_of given units)
+  built_roots k (q, read, sized) = roots q read
+
+  large_roots : (place : Place) → IsOverlargeIn given units texts place → DeclaresRoots (classes_of given units)
+  large_roots place (q, read, large) = roots q read
+
+  one_built : (k l : Classes) → IsBuiltFrom given units texts k → IsBuiltFrom given units texts l → IsSameTable k l
+  one_built k l x y = table.one_table given units texts distinct k l (built_roots k x) (as_table k x) (as_table l y)
+
+  one_fault : (f g : Fault) → IsRefusedIn given units texts f → IsRefusedIn given units texts g → f ≡ g
+  one_fault f g x y = table.one_fault given units texts distinct f g (as_fault f x) (as_fault g y)
+
+  one_place : (a b : Place) → IsOverlargeIn given units texts a → IsOverlargeIn given units texts b → a ≡ b
+  one_place a b x y = table.one_place given units texts distinct a b (large_roots a x) (as_large a x) (as_large b y)
+
+  fault_or_built : (f : Fault) (k : Classes) → IsRefusedIn given units texts f → IsBuiltFrom given units texts k → ⊥
+  fault_or_built f k x y = table.no_table_with_a_fault given units texts distinct k f (as_table k y) (as_fault f x)
+
+  large_or_built : (a : Place) (k : Classes) → IsOverlargeIn given units texts a → IsBuiltFrom given units texts k → ⊥
+  large_or_built a k x y = table.no_table_with_a_large_type given units texts distinct k a (built_roots k y) (as_table k y) (as_large a x)
+
+  fault_or_large : (f : Fault) (a : Place) → IsRefusedIn given units texts f → IsOverlargeIn given units texts a → ⊥
+  fault_or_large f a x y = table.no_large_type_with_a_fault given units texts distinct f a (as_fault f x) (as_large a y)
+
+-- ---- what is translated hangs on what is seen of the table
+
+rows_same : (texts : List Text) (k l : Classes) → map pv.class k.classes.items ≡ map pv.class l.classes.items → rows_of texts k ≡ rows_of texts l
+rows_same texts k l same =
+    sym (map-map (named.class (pv.text_at texts)) pv.class k.classes.items)
+    ∙ ap (map (named.class (pv.text_at texts))) same
+    ∙ map-map (named.class (pv.text_at texts)) pv.class l.classes.items
+
+members_same : (texts : List Text) (k l : Classes) → map pv.member k.members.items ≡ map pv.member l.members.items
+    → map (λ x. named.member (pv.text_at texts) (pv.member x)) k.members.items ≡ map (λ x. named.member (pv.text_at texts) (pv.member x)) l.members.items
+members_same texts k l same =
+    sym (map-map (named.member (pv.text_at texts)) pv.member k.members.items)
+    ∙ ap (map (named.member (pv.text_at texts))) same
+    ∙ map-map (named.member (pv.text_at texts)) pv.member l.members.items
+
+module _ (state : State) (s : Scoping) (main : ℕ) (k l : Classes) (classes : map pv.class k.classes.items ≡ map pv.class l.classes.items) (members : map pv.member k.members.items ≡ map pv.member l.members.items) (function : k.function ≡ l.function) where
+  given_same : given_of s state k main ≡ given_of s state l main
+  given_same = λ i. record (given_of s state k main) {
+    units = map (source_unit (around_same i)) (zip s.homes state.units);
+    first_names = (around_same i).names (library_outer 0);
+    tables = (around_same i).tables;
+    classes = rows i;
+    members = members_same s.texts k l members i;
+    function_class = (function i).0;
+  }
+    where
+      rows : rows_of s.texts k ≡ rows_of s.texts l
+      rows = rows_same s.texts k l classes
+
+      around_same : table_around s k ≡ table_around s l
+      around_same = λ i. around_by (meanings_of s) (rows i) (index_of (source_of s) (rows i))
+
+-- ---- runs
+
+-- what is run hangs on the program and its names
+run_over : (x y : CoreProgram) (b : Budget) (made : Written) → x.names ≡ y.names → pv.program x ≡ pv.program y → IsRunOf y b made → IsRunOf x b made
+run_over x y b made names same run =
+    let renamed = sym names in
+    let other = sym same in
+    record {
+      turn = run.turn;
+      is_run = record {
+        around = run.is_run.around;
+        stripped = record {
+          program = run.is_run.stripped.program ∙ ap stripped.program other;
+          names_same = run.is_run.stripped.names_same ∙ renamed;
+          known_same = run.is_run.stripped.known_same ∙ (λ i. known (other i) (renamed i));
+        };
+        valid = run.is_run.valid;
+        first = run.is_run.first;
+        is_turn = run.is_run.is_turn ∙ (λ i. option_map (main_turn (setting_of run.is_run.around) (other i) (renamed i) b.depth) (new_isolate (other i) b));
+      };
+      is_written = run.is_written ∙ (λ i. written (other i).units run.turn);
+    }
+
+module _ (texts : List Text) (distinct : AreDistinct texts) (b : Budget) where
+  one_run : (k l : Classes) (of : c.Program Text) (x y : CoreProgram) (made other : Written) → IsCoreOf texts k of x → IsCoreOf texts l of y → IsRunOf x b made → IsRunOf y b other → made ≡ other
+  one_run k l of x y made other is so run also =
+      let names : x.names ≡ y.names = is.names ∙ sym so.names in
+      let shown : named.program (pv.text_at texts) (pv.program x) ≡ named.program (pv.text_at texts) (pv.program y) =
+      ap (λ (t : List Text). named.program (pv.text_at t) (pv.program x)) (sym is.names) ∙ is.same ∙ sym so.same
+      ∙ ap (λ (t : List Text). named.program (pv.text_at t) (pv.program y)) so.names in
+      let same : pv.program x ≡ pv.program y = same_numbers texts distinct (pv.program x) (pv.program y) is.within so.within shown in
+      run_is_one x b made other run (run_over x y b other names same also)
+
+  one_run_if : (isolates : Bool) (k l : Classes) (of : c.Program Text) (x y : Execution) → RunsIf isolates texts k of b x → RunsIf isolates texts l of b y → x ≡ y
+  one_run_if true k l of x y is so = is ∙ sym so
+  one_run_if false k l of x y (core, made, is, run, e) (other, more, so, also, f) =
+      e ∙ ap Ran (one_run k l of core other made more is so run also) ∙ sym f
+
+  one_follows : (state : State) (k l : Classes) (answer : p.Answer) (x y : Execution) → Follows state texts k b answer x → Follows state texts l b answer y → x ≡ y
+  one_follows state k l (p.accepted of) x y is so = one_run_if (mentions_isolate state) k l of x y is so
+  one_follows state k l (p.rejected why) x y is so = is ∙ sym so
+  one_follows state k l p.not_built x y is so = is ∙ sym so
+
+-- ---- the whole
+
+module _ (state : State) (s : Scoping) (distinct : AreDistinct s.texts) (b : Budget) where
+  one_translated : (x y : Execution) → IsTranslated state s b x → IsTranslated state s b y → x ≡ y
+  one_translated x y is so =
+      let tables = one_built (class_given s) (source_units state) s.texts distinct is.table.built so.table.built is.table.is_built so.table.is_built in
+      let same = stay_equal s is.table.built so.table.built is.classes so.classes is.table.numbered so.table.numbered tables.classes tables.members tables.function in
+      let mains : is.main ≡ so.main = same_Some is.main so.main (sym is.starts ∙ so.starts) in
+      let given : given_of s state so.classes so.main ≡ given_of s state is.classes is.main =
+      ap (given_of s state so.classes) (sym mains) ∙ sym (given_same state s is.main is.classes so.classes same.0 same.1 (is.table.numbered.function ∙ tables.function ∙ sym so.table.numbered.function)) in
+      one_follows s.texts distinct b state is.classes so.classes (p.core (given_of s state is.classes is.main)) x y is.follows
+      (subst (λ (g : p.Given). Follows state s.texts so.classes b (p.core g) y) given so.follows)
+
+  refusal_or_translated : (x y : Execution) → IsRefusedBy state s x → IsTranslated state s b y → ⊥
+  refusal_or_translated x y (f, refused, e) so = fault_or_built (class_given s) (source_units state) s.texts distinct f so.table.built refused so.table.is_built
+
+  large_or_translated : (x y : Execution) → IsTooLarge state s x → IsTranslated state s b y → ⊥
+  large_or_translated x y (place, large, e) so = large_or_built (class_given s) (source_units state) s.texts distinct place so.table.built large so.table.is_built
+
+  refusal_or_large : (x y : Execution) → IsRefusedBy state s x → IsTooLarge state s y → ⊥
+  refusal_or_large x y (f, refused, e) (place, large, g) = fault_or_large (class_given s) (source_units state) s.texts distinct f place refused large
+
+  one_refusal : (x y : Execution) → IsRefusedBy state s x → IsRefusedBy state s y → x ≡ y
+  one_refusal x y (f, refused, e) (g, also, h) =
+      e ∙ ap (λ (t : Fault). Refused t.place (class_cause t.reason)) (one_fault (class_given s) (source_units state) s.texts distinct f g refused also) ∙ sym h
+
+  one_large : (x y : Execution) → IsTooLarge state s x → IsTooLarge state s y → x ≡ y
+  one_large x y (place, large, e) (other, also, h) =
+      e ∙ ap (λ (t : Place). Refused t cause.TypesTooLarge) (one_place (class_given s) (source_units state) s.texts distinct place other large also) ∙ sym h
+
+  one_in : (x y : Execution) → ExecutesIn state s b x → ExecutesIn state s b y → x ≡ y
+  one_in x y (inl is) (inl so) = one_refusal x y is so
+  one_in x y (inl is) (inr (inl so)) = absurd (refusal_or_large x y is so)
+  one_in x y (inl is) (inr (inr so)) = absurd (refusal_or_translated x y is so)
+  one_in x y (inr (inl is)) (inl so) = absurd (refusal_or_large y x so is)
+  one_in x y (inr (inl is)) (inr (inl so)) = one_large x y is so
+  one_in x y (inr (inl is)) (inr (inr so)) = absurd (large_or_translated x y is so)
+  one_in x y (inr (inr is)) (inl so) = absurd (refusal_or_translated y x so is)
+  one_in x y (inr (inr is)) (inr (inl so)) = absurd (large_or_translated y x so is)
+  one_in x y (inr (inr is)) (inr (inr so)) = one_translated x y is so
+
+-- What becomes of a loaded program within a budget is one thing.
+pub one_execution : (state : State) (b : Budget) (x y : Execution) → Executes state b x → Executes state b y → x ≡ y
+one_execution state b x y (s, is, distinct, found) (t, so, also, other) =
+    one_in state s distinct b x y found (subst (λ (r : Scoping). ExecutesIn state r b y) (one_scoping state s t is so) other)
