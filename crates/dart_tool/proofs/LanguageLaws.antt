@@ -1,7 +1,11 @@
--- A root is refused for one reason, or comes to one run, or neither; and type annotations are read nowhere.
-use Rattle.std.proofs.Common.{◌≡◌, ◌∙◌, sym, ap, subst, refl, ℕ, List, [], Option, None, Some, Err, ◌⊎◌, inl, inr}
+-- A root is refused for one reason, or comes to one run, or neither; and type annotations of the subset are read nowhere.
+use Rattle.std.proofs.Common.{◌≡◌, ◌∙◌, sym, ap, subst, refl, ℕ, List, map, Option, None, Some, Result, Ok, Err, IfOk, ◌⊎◌, inl, inr}
 use Rattle.std.specs.Prelude.{◌↔◌}
 use Rattle.dart_edge.specs.Files.{Files}
+use Rattle.dart_execute.specs.Execution.{allowed}
+use Rattle.dart_run.specs.declared.written.Written.{Written}
+use Rattle.dart_words.specs.declared.budget.Budget.{Budget}
+use Rattle.scope_load.specs.State.{State}
 use Rattle.parse_unit.specs.declared.fault.ParseFault.{ParseFault}
 use Rattle.dart_front.specs.declared.fault.TextFault.{TextFault}
 use Rattle.dart_front.specs.declared.fault.TextFault.TheVariants as t
@@ -17,35 +21,52 @@ use Rattle.dart_tool.specs.declared.program.RunStop.{RunStop}
 use Rattle.dart_tool.specs.declared.program.RunStop.TheVariants.{Refused, Failed, Memory}
 use Rattle.dart_tool.specs.declared.status.Refusal.{Refusal}
 use Rattle.dart_tool.specs.declared.subset.program.Statement.{Statement}
-use Rattle.dart_tool.specs.Language.{LexisRefuses, SyntaxRefuses, IsNoUnitFor, RefusedFor, Runs, DifferInAnnotationsAlone, Stops, stop_for}
+use Rattle.dart_tool.specs.declared.run.Ended.{Ended}
+use Rattle.dart_tool.specs.declared.run.Ended.TheVariants.{Printed, Whole}
+use Rattle.dart_tool.specs.Language.{LexisRefuses, SyntaxRefuses, IsNoUnitFor, IsWhole, usual, RefusedFor, Runs, Writes, GivesEnd, DifferInAnnotationsAlone, Stops, stop_for}
 use Rattle.dart_tool.specs.Outcome.{FileGives}
-use Rattle.dart_tool.specs.Program.{Judges, ProgramRefused, WhereHas}
+use Rattle.dart_tool.specs.Program.{EndsAs, IsSound, Judges, LoadGives, WhereHas}
 use Rattle.dart_tool.specs.Run.{Run}
 use Rattle.dart_tool.specs.Status.{lexical_refusal, syntax_refusal, text_refusal}
 use Rattle.dart_tool.specs.Subset.Model.{run_of}
-use Rattle.dart_tool.specs.Subset.Names.{Fits}
-use Rattle.dart_tool.specs.Subset.Program.{SpellsProgram, SpellsNoProgram}
+use Rattle.dart_tool.specs.Subset.Program.{IsSource, SpellsProgram, without_annotation}
 use Rattle.dart_tool.proofs.SubsetLaws.Sources.{one_program}
 use Rattle.dart_tool.proofs.SubsetLaws.Unread.{run_unread, fits_unread}
-use Rattle.dart_tool.proofs.ProgramLaws.{one_program_refusal}
+use Rattle.dart_tool.proofs.ProgramLaws.{one_any, one_finish, finish_unrefused, finished_unrefused, not_built_unrefused, not_built_unwritten}
 
-pub one_refusal : (files : Files) (name text : List ℕ) (a b : FileRefusal) → RefusedFor files name text a → RefusedFor files name text b → a ≡ b
-one_refusal files name text a b x y = one_program_refusal files name a b x.0 y.0
+pub one_refusal : (files : Files) (name text : List ℕ) (budget : Budget) (a b : FileRefusal) → RefusedFor files name text budget a → RefusedFor files name text budget b → a ≡ b
+one_refusal files name text budget a b x y = one_any files name budget a b x.0 y.0
 
-pub one_run : (text : List ℕ) (a b : Run) → Runs text a → Runs text b → a ≡ b
-one_run text a b (p, source, e) (q, other, f) =
+pub one_run : (text : List ℕ) (budget : Budget) (a b : Run) → Runs text budget a → Runs text budget b → a ≡ b
+one_run text budget a b (p, source, usually, e) (q, other, also, f) =
     e ∙ ap run_of (one_program text p q source.spells other.spells) ∙ sym f
 
--- a root that spells a program of the subset is refused for no reason
-pub spelled_unrefused : (files : Files) (name text : List ℕ) (p : List Statement) (against : FileRefusal) → SpellsProgram text p → RefusedFor files name text against → ⊥
-spelled_unrefused files name text p against spells refused = refused.1 p spells
+pub one_written : (files : Files) (name text : List ℕ) (budget : Budget) (a b : Written) → Writes files name text budget a → Writes files name text budget b → a ≡ b
+one_written files name text budget a b x y = one_finish files name budget a b x.0 y.0
 
-pub run_unrefused : (files : Files) (name text : List ℕ) (run : Run) (against : FileRefusal) → Runs text run → RefusedFor files name text against → ⊥
-run_unrefused files name text run against (p, source, e) = spelled_unrefused files name text p against source.spells
+-- a root that is run as a program of the subset is refused for no reason, and runs as no other program
+not_whole : (text : List ℕ) (budget : Budget) (p : List Statement) → IsSource text p → budget ≡ usual → IsWhole text budget → ⊥
+not_whole text budget p source usually (inl none) = none p source
+not_whole text budget p source usually (inr unusual) = unusual usually
 
--- a text that spells no program has no run
-pub no_program_no_run : (text : List ℕ) → SpellsNoProgram text → (run : Run) → Runs text run → ⊥
-no_program_no_run text none run (p, source, e) = none p source.spells
+pub source_unrefused : (files : Files) (name text : List ℕ) (budget : Budget) (p : List Statement) (against : FileRefusal) → IsSource text p → budget ≡ usual → RefusedFor files name text budget against → ⊥
+source_unrefused files name text budget p against source usually refused = not_whole text budget p source usually refused.1
+
+pub source_unwritten : (files : Files) (name text : List ℕ) (budget : Budget) (p : List Statement) (made : Written) → IsSource text p → budget ≡ usual → Writes files name text budget made → ⊥
+source_unwritten files name text budget p made source usually writes = not_whole text budget p source usually writes.1
+
+pub run_unrefused : (files : Files) (name text : List ℕ) (budget : Budget) (run : Run) (against : FileRefusal) → Runs text budget run → RefusedFor files name text budget against → ⊥
+run_unrefused files name text budget run against (p, source, usually, e) = source_unrefused files name text budget p against source usually
+
+pub run_unwritten : (files : Files) (name text : List ℕ) (budget : Budget) (run : Run) (made : Written) → Runs text budget run → Writes files name text budget made → ⊥
+run_unwritten files name text budget run made (p, source, usually, e) = source_unwritten files name text budget p made source usually
+
+pub written_unrefused : (files : Files) (name text : List ℕ) (budget : Budget) (made : Written) (against : FileRefusal) → Writes files name text budget made → RefusedFor files name text budget against → ⊥
+written_unrefused files name text budget made against writes refused = finish_unrefused files name budget against made refused.0 writes.0
+
+-- what runs as a program of the whole language has no run of the subset
+pub whole_no_run : (text : List ℕ) (budget : Budget) → IsWhole text budget → (run : Run) → Runs text budget run → ⊥
+whole_no_run text budget whole run (p, source, usually, e) = not_whole text budget p source usually whole
 
 -- ---- why a text stops
 
@@ -78,50 +99,66 @@ fault_stop text t.Memory has = tt
 
 -- ---- what a root gives, where the files are told
 
-pub told_spelled : (told : Option Files) (name text : List ℕ) (p : List Statement) → SpellsProgram text p → WhereHas told name text (λ files. (against : FileRefusal) → RefusedFor files name text against → ⊥)
-told_spelled None name text p spells = tt
-told_spelled (Some files) name text p spells = λ has against. spelled_unrefused files name text p against spells
+pub told_source : (told : Option Files) (name text : List ℕ) (budget : Budget) (p : List Statement) → IsSource text p → budget ≡ usual → WhereHas told name text (λ files. (against : FileRefusal) → RefusedFor files name text budget against → ⊥)
+told_source None name text budget p source usually = tt
+told_source (Some files) name text budget p source usually = λ has against. source_unrefused files name text budget p against source usually
 
--- a program that is refused for no reason
-pub told_checked : (told : Option Files) (name text : List ℕ) → WhereHas told name text (λ files. (against : FileRefusal) → ProgramRefused files name against → ⊥) → WhereHas told name text (λ files. (against : FileRefusal) → RefusedFor files name text against → ⊥)
-told_checked None name text none = tt
-told_checked (Some files) name text none = λ has against refused. none has against refused.0
+-- what loading stops is refused
+pub told_unloaded : (told : Option Files) (name text : List ℕ) (budget : Budget) (stop : RunStop) → IsWhole text budget → LoadGives told name text (Err stop) → Judges {T = Option Ended} (λ files. RefusedFor files name text budget) told name text (Err stop)
+told_unloaded None name text budget (Refused against) none gives = tt
+told_unloaded (Some files) name text budget (Refused against) none gives = λ has. (inl (gives has), none)
+told_unloaded told name text budget Failed none gives = tt
+told_unloaded told name text budget Memory none gives = tt
 
-told_refused : (told : Option Files) (name text : List ℕ) (against : FileRefusal) → SpellsNoProgram text → WhereHas told name text (λ files. ProgramRefused files name against) → WhereHas told name text (λ files. RefusedFor files name text against)
-told_refused None name text against none refused = tt
-told_refused (Some files) name text against none refused = λ has. (refused has, none)
+-- what becomes of loaded units
 
--- one that is refused
-pub told_stopped : (T U : Type 0) (told : Option Files) (name text : List ℕ) (stop : RunStop) → SpellsNoProgram text → Judges {T = T} (λ files. ProgramRefused files name) told name text (Err stop) → Judges {T = U} (λ files. RefusedFor files name text) told name text (Err stop)
-told_stopped T U told name text (Refused against) none stops = told_refused told name text against none stops
-told_stopped T U told name text Failed none stops = tt
-told_stopped T U told name text Memory none stops = tt
+pub told_ended : (told : Option Files) (name text : List ℕ) (budget : Budget) (state : State) (result : Result (Option Ended) RunStop) → IsWhole text budget → WhereHas told name text (λ files. IsSound files name state) → EndsAs state (allowed budget) result → Judges (λ files. RefusedFor files name text budget) told name text result
+told_ended None name text budget state (Ok ended) none sound ends = tt
+told_ended None name text budget state (Err (Refused against)) none sound ends = tt
+told_ended (Some files) name text budget state (Ok None) none sound ends = λ has against refused.
+    not_built_unrefused files name budget state (sound has) ends against refused.0
+told_ended (Some files) name text budget state (Ok (Some (Whole made))) none sound ends = λ has against refused.
+    finished_unrefused files name budget state made (sound has) ends against refused.0
+told_ended (Some files) name text budget state (Ok (Some (Printed printed))) none sound ends = absurd ends
+told_ended (Some files) name text budget state (Err (Refused against)) none sound (place, cause, is, e) = λ has.
+    (inr (state, place, cause, sound has, is, e), none)
+told_ended told name text budget state (Err Failed) none sound ends = absurd ends
+told_ended told name text budget state (Err Memory) none sound ends = tt
+
+pub told_given : (told : Option Files) (name text : List ℕ) (budget : Budget) (state : State) (result : Result (Option Ended) RunStop) → IsWhole text budget → WhereHas told name text (λ files. IsSound files name state) → EndsAs state (allowed budget) result → IfOk result (GivesEnd told name text budget)
+told_given None name text budget state (Ok None) none sound ends = (whole_no_run text budget none, tt)
+told_given (Some files) name text budget state (Ok None) none sound ends =
+    (whole_no_run text budget none, λ has made writes. not_built_unwritten files name budget state (sound has) ends made writes.0)
+told_given None name text budget state (Ok (Some (Whole made))) none sound ends = tt
+told_given (Some files) name text budget state (Ok (Some (Whole made))) none sound ends = λ has. ((state, sound has, ends), none)
+told_given told name text budget state (Ok (Some (Printed printed))) none sound ends = absurd ends
+told_given told name text budget state (Err stop) none sound ends = tt
 
 -- ---- type annotations
 
+-- the other text is the source of a program as well
+pub other_source : (text other : List ℕ) (p q : List Statement) → IsSource text p → SpellsProgram other q → map without_annotation p ≡ map without_annotation q → IsSource other q
+other_source text other p q source also e = record { spells = also; fits = fits_unread p q e source.fits }
+
 annotations_sym : (text other : List ℕ) → DifferInAnnotationsAlone text other → DifferInAnnotationsAlone other text
-annotations_sym text other (p, q, spells, also, e) = (q, p, also, spells, sym e)
+annotations_sym text other (p, q, source, also, e) = (q, p, other_source text other p q source also e, source.spells, sym e)
 
-run_passes : (text other : List ℕ) (run : Run) → DifferInAnnotationsAlone text other → Runs text run → Runs other run
-run_passes text other run (p, q, spells, also, e) (s, source, is) =
-    let same : s ≡ p = one_program text s p source.spells spells in
-    let fits : Fits [] q = fits_unread p q e (subst (Fits []) same source.fits) in
-    (q, record { spells = also; fits = fits }, is ∙ ap run_of same ∙ run_unread p q e)
+run_passes : (text other : List ℕ) (budget : Budget) (run : Run) → DifferInAnnotationsAlone text other → Runs text budget run → Runs other budget run
+run_passes text other budget run (p, q, source, also, e) (s, found, usually, is) =
+    let same : s ≡ p = one_program text s p found.spells source.spells in
+    (q, other_source text other p q source also e, usually, is ∙ ap run_of same ∙ run_unread p q e)
 
-pub run_unread_in : (text other : List ℕ) (run : Run) → DifferInAnnotationsAlone text other → (Runs text run) ↔ (Runs other run)
-run_unread_in text other run d =
-    (run_passes text other run d, run_passes other text run (annotations_sym text other d))
+pub run_unread_in : (text other : List ℕ) (budget : Budget) (run : Run) → DifferInAnnotationsAlone text other → (Runs text budget run) ↔ (Runs other budget run)
+run_unread_in text other budget run d =
+    (run_passes text other budget run d, run_passes other text budget run (annotations_sym text other d))
 
-file_passes : (name : List ℕ) (files others : Files) (text other : List ℕ) (out : Outcome) → DifferInAnnotationsAlone text other → FileGives name files (Some text) out → FileGives name others (Some other) out
-file_passes name files others text other out (p, q, spells, also, e) (inl (against, has, is)) = absurd (spelled_unrefused files name text p against spells has)
-file_passes name files others text other out d (inr (inl (run, runs, is))) = inr (inl (run, run_passes text other run d runs, is))
-file_passes name files others text other out (p, q, spells, also, e) (inr (inr (none, no_run, is))) =
-    inr (inr (
-      λ against. spelled_unrefused others name other q against also,
-      λ run runs. no_run run (run_passes other text run (annotations_sym text other (p, q, spells, also, e)) runs),
-      is,
-    ))
+file_passes : (name : List ℕ) (files others : Files) (text other : List ℕ) (out : Outcome) → DifferInAnnotationsAlone text other → FileGives name files usual (Some text) out → FileGives name others usual (Some other) out
+file_passes name files others text other out (p, q, source, also, e) (inl (against, has, is)) = absurd (source_unrefused files name text usual p against source refl has)
+file_passes name files others text other out d (inr (inl (run, runs, is))) = inr (inl (run, run_passes text other usual run d runs, is))
+file_passes name files others text other out (p, q, source, also, e) (inr (inr (inl (made, writes, is)))) = absurd (source_unwritten files name text usual p made source refl writes)
+file_passes name files others text other out (p, q, source, also, e) (inr (inr (inr (none, no_run, nothing, is)))) =
+    absurd (no_run (run_of p) (p, source, refl, refl))
 
-pub file_unread : (name : List ℕ) (files others : Files) (text other : List ℕ) (out : Outcome) → DifferInAnnotationsAlone text other → (FileGives name files (Some text) out) ↔ (FileGives name others (Some other) out)
+pub file_unread : (name : List ℕ) (files others : Files) (text other : List ℕ) (out : Outcome) → DifferInAnnotationsAlone text other → (FileGives name files usual (Some text) out) ↔ (FileGives name others usual (Some other) out)
 file_unread name files others text other out d =
     (file_passes name files others text other out d, file_passes name others files other text out (annotations_sym text other d))

@@ -1,7 +1,18 @@
--- A program is refused for one reason at most, and for none where all its units are loaded and nothing is against them.
-use Rattle.std.proofs.Common.{◌≡◌, ◌∙◌, sym, ap, subst, refl, ℕ, ◌⊎◌, inl, inr, true, false, List, Option, None, Some, Err}
+-- A program is refused for one reason at most, or writes one thing, or neither.
+use Rattle.std.proofs.Common.{◌≡◌, ◌∙◌, sym, ap, subst, refl, ℕ, ◌⊎◌, inl, inr, true, false, List, Option, None, Some, Ok, Err}
+use Rattle.dart_base.specs.declared.place.Place.{Place}
 use Rattle.dart_edge.specs.Files.{Files, file_of}
-use Rattle.scope_files.specs.Files.{NameGives, known}
+use Rattle.dart_execute.specs.declared.cause.Cause.{Cause}
+use Rattle.dart_execute.specs.declared.execution.Execution.{Execution}
+use Rattle.dart_execute.specs.declared.execution.Execution.TheVariants as execution
+use Rattle.dart_execute.specs.Execution.{Executes, allowed}
+use Rattle.dart_execute.proofs.Once.{one_execution}
+use Rattle.dart_run.specs.declared.written.Written.{Written}
+use Rattle.dart_words.specs.declared.budget.Budget.{Budget}
+use Rattle.scope_files.specs.declared.check.Checked.{Checked}
+use Rattle.scope_files.specs.declared.check.Checked.TheVariants.{Sound, Against}
+use Rattle.scope_files.specs.Files.{Found, NameGives, known}
+use Rattle.scope_load.specs.declared.loaded.Loaded.{Loaded}
 use Rattle.scope_files.proofs.FileLaws.{one_name, known_name}
 use Rattle.scope_files.proofs.LoadLaws.{one_reason, refused_or_ended, one_end, stops_by, ends_by}
 use Rattle.scope_load.specs.declared.reason.LoadFault.{LoadFault}
@@ -13,7 +24,14 @@ use Rattle.scope_reason.specs.Reason.{program_reason}
 use Rattle.dart_tool.specs.declared.program.FileRefusal.{FileRefusal}
 use Rattle.dart_tool.specs.declared.program.RunStop.{RunStop}
 use Rattle.dart_tool.specs.declared.program.RunStop.TheVariants.{Refused, Failed, Memory}
-use Rattle.dart_tool.specs.Program.{Judges, LoadRefused, ProgramRefused, WhereHas, WholeRefused, load_stop, program_refusal}
+use Rattle.dart_tool.specs.Program.{ExecutionRefused, Finishes, IsSound, LoadGives, LoadRefused, ProgramRefused, WhereHas, WholeRefused, execution_refusal, load_stop, program_refusal}
+
+-- refusals at one place for one thing are the same
+refused_same : (state other : State) (place at : Place) (cause why : Cause) → state ≡ other → execution.Refused place cause ≡ execution.Refused at why → execution_refusal state place cause ≡ execution_refusal other at why
+refused_same state other place at cause why same one =
+    let places : place ≡ at = cc in
+    let causes : cause ≡ why = cc in
+    λ i. execution_refusal (same i) (places i) (causes i)
 
 module _ (files : Files) (root : List ℕ) where
   one_stop : (a b : LoadFault) (x y : FileRefusal) → Stops (NameGives (Some files)) root a → Stops (NameGives (Some files)) root b → load_stop a ≡ Refused x → load_stop b ≡ Refused y → x ≡ y
@@ -55,49 +73,96 @@ module _ (files : Files) (root : List ℕ) where
   one_program_refusal a b (inr whole) (inl load) = absurd (load_or_whole b a load whole)
   one_program_refusal a b (inr whole) (inr other) = one_whole a b whole other
 
-  -- a program whose units are loaded, with nothing against them as a whole, is refused for no reason
-  loaded_unrefused : (state : State) (against : FileRefusal) → Loads (NameGives (Some files)) root state → None ≡ program_reason state → ProgramRefused files root against → ⊥
-  loaded_unrefused state against loads none (inl (fault, stops, e)) = unstopped state fault against loads stops e
-  loaded_unrefused state against loads none (inr (other, reason, also, is, e)) =
-      let same : state ≡ other = one_end (NameGives (Some files)) root (one_name files) state other loads.0 also.0 in
-      let both : ◌≡◌ {A = Option ProgramReason} None (Some reason) = none ∙ ap program_reason same ∙ is in absurd cc
+  -- a program whose units are loaded, with nothing against them as a whole, is refused for no reason of these
+  loaded_unrefused : (state : State) (against : FileRefusal) → IsSound files root state → ProgramRefused files root against → ⊥
+  loaded_unrefused state against sound (inl (fault, stops, e)) = unstopped state fault against sound.loads stops e
+  loaded_unrefused state against sound (inr (other, reason, also, is, e)) =
+      let same : state ≡ other = one_end (NameGives (Some files)) root (one_name files) state other sound.loads.0 also.0 in
+      let both : ◌≡◌ {A = Option ProgramReason} None (Some reason) = sym sound.sound ∙ ap program_reason same ∙ is in absurd cc
+
+  -- its units are these alone, so within a budget one thing becomes of it
+  one_executed : (budget : Budget) (state other : State) (x y : Execution) → IsSound files root state → IsSound files root other → Executes state (allowed budget) x → Executes other (allowed budget) y → x ≡ y
+  one_executed budget state other x y sound also is so =
+      let same : other ≡ state = one_end (NameGives (Some files)) root (one_name files) other state also.loads.0 sound.loads.0 in
+      one_execution state (allowed budget) x y is (subst (λ (s : State). Executes s (allowed budget) y) same so)
+
+  one_refused_execution : (budget : Budget) (a b : FileRefusal) → ExecutionRefused files root budget a → ExecutionRefused files root budget b → a ≡ b
+  one_refused_execution budget a b (state, place, cause, sound, is, e) (other, at, why, also, so, f) =
+      let one : execution.Refused place cause ≡ execution.Refused at why = one_executed budget state other (execution.Refused place cause) (execution.Refused at why) sound also is so in
+      let same : state ≡ other = one_end (NameGives (Some files)) root (one_name files) state other sound.loads.0 also.loads.0 in
+      e ∙ refused_same state other place at cause why same one ∙ sym f
+
+  -- ---- reasons of both kinds
+
+  abbrev pub AnyRefused : Budget → FileRefusal → Type 0
+  AnyRefused budget against = ProgramRefused files root against ⊎ ExecutionRefused files root budget against
+
+  pub one_any : (budget : Budget) (a b : FileRefusal) → AnyRefused budget a → AnyRefused budget b → a ≡ b
+  one_any budget a b (inl x) (inl y) = one_program_refusal a b x y
+  one_any budget a b (inl x) (inr (state, place, cause, sound, is, e)) = absurd (loaded_unrefused state a sound x)
+  one_any budget a b (inr (state, place, cause, sound, is, e)) (inl y) = absurd (loaded_unrefused state b sound y)
+  one_any budget a b (inr x) (inr y) = one_refused_execution budget a b x y
+
+  pub one_finish : (budget : Budget) (a b : Written) → Finishes files root budget a → Finishes files root budget b → a ≡ b
+  one_finish budget a b (state, sound, is) (other, also, so) =
+      let one : execution.Ran a ≡ execution.Ran b = one_executed budget state other (execution.Ran a) (execution.Ran b) sound also is so in cc
+
+  pub finish_unrefused : (budget : Budget) (against : FileRefusal) (made : Written) → AnyRefused budget against → Finishes files root budget made → ⊥
+  finish_unrefused budget against made (inl x) (state, sound, is) = loaded_unrefused state against sound x
+  finish_unrefused budget against made (inr (other, place, cause, also, so, e)) (state, sound, is) =
+      let one : execution.Refused place cause ≡ execution.Ran made = one_executed budget other state (execution.Refused place cause) (execution.Ran made) also sound so is in cc
+
+  -- what has what isn't built is refused for no reason, and writes nothing
+  pub not_built_unrefused : (budget : Budget) (state : State) → IsSound files root state → Executes state (allowed budget) execution.NotBuilt → (against : FileRefusal) → AnyRefused budget against → ⊥
+  not_built_unrefused budget state sound is against (inl x) = loaded_unrefused state against sound x
+  not_built_unrefused budget state sound is against (inr (other, place, cause, also, so, e)) =
+      let one : execution.Refused place cause ≡ execution.NotBuilt = one_executed budget other state (execution.Refused place cause) execution.NotBuilt also sound so is in cc
+
+  pub not_built_unwritten : (budget : Budget) (state : State) → IsSound files root state → Executes state (allowed budget) execution.NotBuilt → (made : Written) → Finishes files root budget made → ⊥
+  not_built_unwritten budget state sound is made (other, also, so) =
+      let one : execution.Ran made ≡ execution.NotBuilt = one_executed budget other state (execution.Ran made) execution.NotBuilt also sound so is in cc
+
+  pub finished_unrefused : (budget : Budget) (state : State) (made : Written) → IsSound files root state → Executes state (allowed budget) (execution.Ran made) → (against : FileRefusal) → AnyRefused budget against → ⊥
+  finished_unrefused budget state made sound is against any = finish_unrefused budget against made any (state, sound, is)
 
 -- ---- what loading answers with the root's text at hand
 
--- the state to which loading comes, and what is against it as a whole
-abbrev pub LoadedWith : Option Files → List ℕ → List ℕ → Option ProgramReason → Type 0
-LoadedWith told root text reason = (state : State) × Loads (NameGives (known root text told)) root state × (reason ≡ program_reason state)
+known_sound : (files : Files) (root text : List ℕ) (state : State) → file_of files root ≡ Some text → Loads (NameGives (known root text (Some files))) root state → program_reason state ≡ None → IsSound files root state
+known_sound files root text state has loads none = record {
+  loads = (ends_by (NameGives (known root text (Some files))) (NameGives (Some files)) root (known_name root text files has) state loads.0, loads.1);
+  sound = none;
+}
 
-known_loads : (files : Files) (root text : List ℕ) (state : State) → file_of files root ≡ Some text → Loads (NameGives (known root text (Some files))) root state → Loads (NameGives (Some files)) root state
-known_loads files root text state has loads =
-    (ends_by (NameGives (known root text (Some files))) (NameGives (Some files)) root (known_name root text files has) state loads.0, loads.1)
+-- the state to which loading comes, and what is found of it
+abbrev pub FoundWith : Option Files → List ℕ → List ℕ → Checked → Type 0
+FoundWith told root text checked = (state : State) × Loads (NameGives (known root text told)) root state × Found state checked
 
-pub told_loaded : (told : Option Files) (root text : List ℕ) → LoadedWith told root text None → WhereHas told root text (λ files. (against : FileRefusal) → ProgramRefused files root against → ⊥)
-told_loaded None root text loaded = tt
-told_loaded (Some files) root text (state, loads, none) = λ has against.
-    loaded_unrefused files root state against (known_loads files root text state has loads) none
+pub told_loaded : (told : Option Files) (root text : List ℕ) (loaded : Loaded) → FoundWith told root text (Sound loaded) → LoadGives told root text (Ok loaded)
+told_loaded None root text loaded found = tt
+told_loaded (Some files) root text loaded (state, loads, found) = λ has.
+    subst (λ (s : State). IsSound files root s) (sym found.0) (known_sound files root text state has loads found.1)
 
-told_whole : (told : Option Files) (root text : List ℕ) (reason : ProgramReason) → LoadedWith told root text (Some reason) → WhereHas told root text (λ files. ProgramRefused files root (program_refusal reason))
-told_whole None root text reason loaded = tt
+told_whole : (told : Option Files) (root text : List ℕ) (reason : ProgramReason) → FoundWith told root text (Against reason) → WhereHas told root text (λ files. ProgramRefused files root (program_refusal reason))
+told_whole None root text reason found = tt
 told_whole (Some files) root text reason (state, loads, is) = λ has.
-    inr (state, reason, known_loads files root text state has loads, sym is, refl)
+    inr (state, reason, (ends_by (NameGives (known root text (Some files))) (NameGives (Some files)) root (known_name root text files has) state loads.0, loads.1), is, refl)
 
 -- where memory may run out over the reason
-pub told_whole_stop : (T : Type 0) (told : Option Files) (root text : List ℕ) (reason : ProgramReason) (stop : RunStop) → (stop ≡ Refused (program_refusal reason)) ⊎ (stop ≡ Memory) → LoadedWith told root text (Some reason) → Judges {T = T} (λ files. ProgramRefused files root) told root text (Err stop)
-told_whole_stop T told root text reason stop (inl e) loaded = subst (λ (s : RunStop). Judges {T = T} (λ files. ProgramRefused files root) told root text (Err s)) (sym e) (told_whole told root text reason loaded)
-told_whole_stop T told root text reason stop (inr e) loaded = subst (λ (s : RunStop). Judges {T = T} (λ files. ProgramRefused files root) told root text (Err s)) (sym e) tt
+pub told_whole_stop : (told : Option Files) (root text : List ℕ) (reason : ProgramReason) (stop : RunStop) → (stop ≡ Refused (program_refusal reason)) ⊎ (stop ≡ Memory) → FoundWith told root text (Against reason) → LoadGives told root text (Err stop)
+told_whole_stop told root text reason stop (inl e) found = subst (λ (s : RunStop). LoadGives told root text (Err s)) (sym e) (told_whole told root text reason found)
+told_whole_stop told root text reason stop (inr e) found = subst (λ (s : RunStop). LoadGives told root text (Err s)) (sym e) tt
 
 told_refused : (told : Option Files) (root text : List ℕ) (fault : LoadFault) (against : FileRefusal) → load_stop fault ≡ Refused against → Stops (NameGives (known root text told)) root fault → WhereHas told root text (λ files. ProgramRefused files root against)
 told_refused None root text fault against e stops = tt
 told_refused (Some files) root text fault against e stops = λ has.
     inl (fault, stops_by (NameGives (known root text (Some files))) (NameGives (Some files)) root (known_name root text files has) fault stops, e)
 
-pub told_fault : (T : Type 0) (told : Option Files) (root text : List ℕ) (fault : LoadFault) (stop : RunStop) → load_stop fault ≡ stop → Stops (NameGives (known root text told)) root fault → Judges {T = T} (λ files. ProgramRefused files root) told root text (Err stop)
-told_fault T told root text fault (Refused against) e stops = told_refused told root text fault against e stops
-told_fault T told root text fault Failed e stops = tt
-told_fault T told root text fault Memory e stops = tt
+told_fault : (told : Option Files) (root text : List ℕ) (fault : LoadFault) (stop : RunStop) → load_stop fault ≡ stop → Stops (NameGives (known root text told)) root fault → LoadGives told root text (Err stop)
+told_fault told root text fault (Refused against) e stops = told_refused told root text fault against e stops
+told_fault told root text fault Failed e stops = tt
+told_fault told root text fault Memory e stops = tt
 
 -- where memory may run out over the fault
-pub told_stop : (T : Type 0) (told : Option Files) (root text : List ℕ) (fault : LoadFault) (stop : RunStop) → (stop ≡ load_stop fault) ⊎ (stop ≡ Memory) → Stops (NameGives (known root text told)) root fault → Judges {T = T} (λ files. ProgramRefused files root) told root text (Err stop)
-told_stop T told root text fault stop (inl e) stops = told_fault T told root text fault stop (sym e) stops
-told_stop T told root text fault stop (inr e) stops = subst (λ (s : RunStop). Judges {T = T} (λ files. ProgramRefused files root) told root text (Err s)) (sym e) tt
+pub told_stop : (told : Option Files) (root text : List ℕ) (fault : LoadFault) (stop : RunStop) → (stop ≡ load_stop fault) ⊎ (stop ≡ Memory) → Stops (NameGives (known root text told)) root fault → LoadGives told root text (Err stop)
+told_stop told root text fault stop (inl e) stops = told_fault told root text fault stop (sym e) stops
+told_stop told root text fault stop (inr e) stops = subst (λ (s : RunStop). LoadGives told root text (Err s)) (sym e) tt

@@ -1,22 +1,27 @@
 -- What the tool knows of the language: for which reason a program is refused, and to what run it comes. Outcomes and
--- laws speak of these words alone, and these words alone speak of the subset that is built.
+-- laws speak of these words alone, and these words alone speak of the subset.
 use Rattle.std.specs.Prelude.{◌≡◌, ◌⊎◌, ℕ, List, map, Option, None, Some}
 use Rattle.dart_edge.specs.Files.{Files}
 use Rattle.dart_front.specs.Texts.{IsNoUnit}
 use Rattle.dart_lex.specs.declared.lexer.LexFault.{LexFault}
 use Rattle.dart_lex.specs.Spelling.{HasReason}
+use Rattle.dart_run.specs.declared.written.Written.{Written}
+use Rattle.dart_words.specs.declared.budget.Budget.{Budget}
+use Rattle.dart_words.specs.Budget.{budget_of}
+use Rattle.dart_words.specs.Words.{nothing_given}
 use Rattle.parse_unit.specs.declared.fault.ParseFault.{ParseFault}
 use Rattle.dart_tool.specs.declared.language.Stop.{Stop}
 use Rattle.dart_tool.specs.declared.language.Stop.TheVariants.{Refused, Memory}
 use Rattle.dart_tool.specs.declared.program.FileRefusal.{FileRefusal}
-use Rattle.dart_tool.specs.declared.run.Printed.{Printed}
+use Rattle.dart_tool.specs.declared.run.Ended.{Ended}
+use Rattle.dart_tool.specs.declared.run.Ended.TheVariants.{Printed, Whole}
 use Rattle.dart_tool.specs.declared.status.Refusal.{Refusal}
 use Rattle.dart_tool.specs.declared.subset.program.Statement.{Statement}
-use Rattle.dart_tool.specs.Program.{ProgramRefused}
+use Rattle.dart_tool.specs.Program.{ExecutionRefused, Finishes, ProgramRefused, WhereHas}
 use Rattle.dart_tool.specs.Run.{Run, IsPrintOf}
 use Rattle.dart_tool.specs.Status.{lexical_refusal, syntax_refusal}
 use Rattle.dart_tool.specs.Subset.Model.{run_of}
-use Rattle.dart_tool.specs.Subset.Program.{IsSource, SpellsProgram, SpellsNoProgram, without_annotation}
+use Rattle.dart_tool.specs.Subset.Program.{IsSource, IsNoSource, SpellsProgram, without_annotation}
 
 -- The text spells no tokens, for this reason.
 abbrev pub LexisRefuses : List ℕ → Refusal → Type 0
@@ -32,25 +37,40 @@ SyntaxRefuses text why =
 abbrev pub IsNoUnitFor : List ℕ → Refusal → Type 0
 IsNoUnitFor text why = LexisRefuses text why ⊎ SyntaxRefuses text why
 
--- The root with this name and text is not run, for this reason against the program. A text that spells a program of the
--- subset has none: it mentions no file, and the subset is a part of the grammar, which this says where it isn't proved.
-abbrev pub RefusedFor : Files → List ℕ → List ℕ → FileRefusal → Type 0
-RefusedFor files name text against = ProgramRefused files name against × SpellsNoProgram text
+-- what each isolate of a run may take whose words say nothing of it
+abbrev pub usual : Budget
+usual = budget_of nothing_given
 
--- The text is a program, and this is its run.
-abbrev pub Runs : List ℕ → Run → Type 0
-Runs text run = (statements : List Statement) × IsSource text statements × (run ≡ run_of statements)
+-- The text is no source of a program of the subset, or there is another budget than the usual one, which no such program uses up.
+abbrev pub IsWhole : List ℕ → Budget → Type 0
+IsWhole text budget = IsNoSource text ⊎ (budget ≡ usual → ⊥)
 
--- The texts spell programs that are the same but for the type annotations of their variables.
+-- The root with this name and text is not run, for this reason against the program. The source of a program of the subset has none: it
+-- mentions no file, and the subset is a part of the grammar, which this says where it isn't proved.
+abbrev pub RefusedFor : Files → List ℕ → List ℕ → Budget → FileRefusal → Type 0
+RefusedFor files name text budget against =
+    (ProgramRefused files name against ⊎ ExecutionRefused files name budget against) × IsWhole text budget
+
+-- The text is the source of a program of the subset, the budget the usual one, and this is its run.
+abbrev pub Runs : List ℕ → Budget → Run → Type 0
+Runs text budget run = (statements : List Statement) × IsSource text statements × (budget ≡ usual) × (run ≡ run_of statements)
+
+-- The root with this name and text runs as a program of the whole language, within the budget, and writes this.
+abbrev pub Writes : Files → List ℕ → List ℕ → Budget → Written → Type 0
+Writes files name text budget made = Finishes files name budget made × IsWhole text budget
+
+-- The texts spell programs that are the same but for the type annotations of their variables, and one is the source of a program.
 abbrev pub DifferInAnnotationsAlone : List ℕ → List ℕ → Type 0
 DifferInAnnotationsAlone text other =
-    (p : List Statement) × (q : List Statement) × SpellsProgram text p × SpellsProgram other q ×
+    (p : List Statement) × (q : List Statement) × IsSource text p × SpellsProgram other q ×
     (map without_annotation p ≡ map without_annotation q)
 
--- What running a text gives: what its run prints, or nothing where it has no run.
-abbrev pub GivesRun : List ℕ → Option Printed → Type 0
-GivesRun text None = (run : Run) → Runs text run → ⊥
-GivesRun text (Some printed) = (run : Run) × Runs text run × IsPrintOf run printed
+-- What running a text gives: what its run prints, or what a program of the whole language writes, or nothing where it has neither.
+abbrev pub GivesEnd : Option Files → List ℕ → List ℕ → Budget → Option Ended → Type 0
+GivesEnd told name text budget None =
+    ((run : Run) → Runs text budget run → ⊥) × WhereHas told name text (λ files. (made : Written) → Writes files name text budget made → ⊥)
+GivesEnd told name text budget (Some (Printed printed)) = (run : Run) × Runs text budget run × IsPrintOf run printed
+GivesEnd told name text budget (Some (Whole made)) = WhereHas told name text (λ files. Writes files name text budget made)
 
 -- Why nothing is made of a text: it is refused for one of these reasons, or memory ran out.
 abbrev pub Stops : (Refusal → Type 0) → Stop → Type 0

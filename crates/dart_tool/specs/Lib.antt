@@ -6,4 +6,3 @@ pub mod Run
 pub mod Status
 pub mod Subset
 pub mod Tool
-pub mod Words

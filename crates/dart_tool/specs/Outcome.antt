@@ -6,20 +6,26 @@ use Rattle.dart_base.specs.declared.place.Place.{Place}
 use Rattle.dart_base.specs.Feature.{feature_text}
 use Rattle.dart_edge.specs.Files.{Files, file_of}
 use Rattle.dart_front.specs.Texts.{ErasesTo}
+use Rattle.dart_run.specs.declared.written.Written.{Written}
+use Rattle.dart_words.specs.declared.budget.Budget.{Budget}
+use Rattle.dart_words.specs.declared.words.Verb.{Verb}
+use Rattle.dart_words.specs.declared.words.Verb.TheVariants as v
+use Rattle.dart_words.specs.Words.{Command, reading}
+use Rattle.turn_text.specs.declared.finish.Finish.{Finish}
+use Rattle.turn_text.specs.declared.finish.Finish.TheVariants as f
 use Rattle.dart_tool.specs.declared.outcome.Outcome.{Outcome}
 use Rattle.dart_tool.specs.declared.program.FileRefusal.{FileRefusal}
+use Rattle.dart_tool.specs.declared.run.Ended.{Ended}
+use Rattle.dart_tool.specs.declared.run.Ended.TheVariants.{Printed, Whole}
 use Rattle.dart_tool.specs.declared.run.Ending.{Ending}
 use Rattle.dart_tool.specs.declared.run.Ending.TheVariants.{Returned, IntegerLimit}
 use Rattle.dart_tool.specs.declared.status.Status.{Status}
-use Rattle.dart_tool.specs.declared.status.Status.TheVariants.{Done, Usage, Refused, Limit, ReadFault, WriteFault, Memory}
+use Rattle.dart_tool.specs.declared.status.Status.TheVariants.{Done, Usage, Refused, Uncaught, Limit, ReadFault, WriteFault, Memory}
 use Rattle.dart_tool.specs.declared.status.Refusal.{Refusal}
-use Rattle.dart_tool.specs.declared.status.Refusal.TheVariants.{NotFound, NotUtf8, BadToken, LeftOut, IntegerTooLarge, Syntax, TooDeep, BadDirective, ProgramTooLarge, Duplicate, NoMain, NotBuilt}
-use Rattle.dart_tool.specs.declared.words.Verb.{Verb}
-use Rattle.dart_tool.specs.declared.words.Verb.TheVariants as v
-use Rattle.dart_tool.specs.Language.{IsNoUnitFor, RefusedFor, Runs}
+use Rattle.dart_tool.specs.declared.status.Refusal.TheVariants.{NotFound, NotUtf8, BadToken, LeftOut, IntegerTooLarge, Syntax, TooDeep, BadDirective, ProgramTooLarge, Duplicate, NoMain, CyclicClasses, BadSuper, BadMixin, TypesTooLarge, NotConstant, BadLabel, BadConstructor, BadSwitch, BadWord, TooManyParameters, NotBuilt}
+use Rattle.dart_tool.specs.Language.{IsNoUnitFor, RefusedFor, Runs, Writes}
 use Rattle.dart_tool.specs.Run.{Run, with_end, printed_bytes}
 use Rattle.dart_tool.specs.Status.{refusal_text}
-use Rattle.dart_tool.specs.Words.{Command, reading}
 
 abbrev pub usage_line : List ℕ
 usage_line =
@@ -54,6 +60,16 @@ refusal_details (Syntax place) name = named_place place name
 refusal_details (TooDeep place) name = named_place place name
 refusal_details (BadDirective place) name = named_place place name
 refusal_details (Duplicate place declared) name = named_place place name ++ byte " " ∷ declared
+refusal_details (CyclicClasses place) name = named_place place name
+refusal_details (BadSuper place) name = named_place place name
+refusal_details (BadMixin place) name = named_place place name
+refusal_details (TypesTooLarge place) name = named_place place name
+refusal_details (NotConstant place) name = named_place place name
+refusal_details (BadLabel place) name = named_place place name
+refusal_details (BadConstructor place) name = named_place place name
+refusal_details (BadSwitch place) name = named_place place name
+refusal_details (BadWord place) name = named_place place name
+refusal_details (TooManyParameters place) name = named_place place name
 refusal_details ProgramTooLarge name = []
 refusal_details NoMain name = []
 refusal_details why name = named name
@@ -82,15 +98,30 @@ transcript_of bytes ending =
 abbrev pub transcript : Run → Outcome
 transcript run = transcript_of (printed_bytes run) run.ending
 
--- What `run` gives for a root that isn't there, or for one with this text: the refusal for the program's reason, or the
--- transcript of its run, or, where it has neither, NotBuilt.
-abbrev pub FileGives : List ℕ → Files → Option (List ℕ) → Outcome → Type 0
-FileGives name files None out = out ≡ refused NotFound name
-FileGives name files (Some text) out =
-    ((against : FileRefusal) × RefusedFor files name text against × (out ≡ refused against.why against.file)) ⊎
-    (((run : Run) × Runs text run × (out ≡ transcript run)) ⊎
-    (((against : FileRefusal) → RefusedFor files name text against → ⊥) × ((run : Run) → Runs text run → ⊥) ×
-    (out ≡ refused NotBuilt name)))
+abbrev pub finish_status : Finish → Status
+finish_status f.Done = Done
+finish_status f.Uncaught = Uncaught
+finish_status f.Limit = Limit
+
+-- what a program of the whole language writes, and how it finishes
+abbrev pub written_outcome : Written → Outcome
+written_outcome made = record { status = finish_status made.finish; bytes = made.bytes }
+
+-- what a program comes to that runs
+abbrev pub ended_outcome : Ended → Outcome
+ended_outcome (Printed printed) = transcript_of printed.bytes printed.ending
+ended_outcome (Whole made) = written_outcome made
+
+-- What `run` gives within a budget for a root that isn't there, or for one with this text: the refusal for the program's reason, or
+-- the transcript of its run, or what it writes, or, where it has none of these, NotBuilt.
+abbrev pub FileGives : List ℕ → Files → Budget → Option (List ℕ) → Outcome → Type 0
+FileGives name files budget None out = out ≡ refused NotFound name
+FileGives name files budget (Some text) out =
+    ((against : FileRefusal) × RefusedFor files name text budget against × (out ≡ refused against.why against.file)) ⊎
+    (((run : Run) × Runs text budget run × (out ≡ transcript run)) ⊎
+    (((made : Written) × Writes files name text budget made × (out ≡ written_outcome made)) ⊎
+    (((against : FileRefusal) → RefusedFor files name text budget against → ⊥) × ((run : Run) → Runs text budget run → ⊥) ×
+    ((made : Written) → Writes files name text budget made → ⊥) × (out ≡ refused NotBuilt name))))
 
 -- the text of a unit without annotations
 abbrev pub erased_outcome : List ℕ → Outcome
@@ -106,7 +137,7 @@ EraseGives name (Some text) out =
 
 -- What a command gives for its file, where these are the files.
 abbrev pub VerbGives : Verb → List ℕ → Files → Option (List ℕ) → Outcome → Type 0
-VerbGives v.Run name files content out = FileGives name files content out
+VerbGives (v.Run budget) name files content out = FileGives name files budget content out
 VerbGives v.Erase name files content out = EraseGives name content out
 
 -- What a command gives.

@@ -1,5 +1,8 @@
 -- The tables of statuses and refusals.
 use Rattle.std.specs.Prelude.{ℕ, List, codes, Option, None, Some}
+use Rattle.dart_base.specs.declared.place.Place.{Place}
+use Rattle.dart_execute.specs.declared.cause.Cause.{Cause}
+use Rattle.dart_execute.specs.declared.cause.Cause.TheVariants as c
 use Rattle.dart_lex.specs.declared.lexer.LexFault.{LexFault}
 use Rattle.dart_lex.specs.declared.lexer.LexFault.TheVariants as e
 use Rattle.dart_front.specs.declared.fault.TextFault.{TextFault}
@@ -11,15 +14,16 @@ use Rattle.scope_load.specs.declared.reason.Reason.TheVariants as r
 use Rattle.scope_load.specs.declared.units.TextReason.{TextReason}
 use Rattle.scope_load.specs.declared.units.TextReason.TheVariants as x
 use Rattle.dart_tool.specs.declared.status.Status.{Status}
-use Rattle.dart_tool.specs.declared.status.Status.TheVariants.{Done, Usage, Refused, Limit, ReadFault, WriteFault, Memory}
+use Rattle.dart_tool.specs.declared.status.Status.TheVariants.{Done, Usage, Refused, Uncaught, Limit, ReadFault, WriteFault, Memory}
 use Rattle.dart_tool.specs.declared.status.Refusal.{Refusal}
-use Rattle.dart_tool.specs.declared.status.Refusal.TheVariants.{NotFound, NotUtf8, BadToken, LeftOut, IntegerTooLarge, Syntax, TooDeep, TooLarge, BadDirective, ProgramTooLarge, Duplicate, NoMain, NotBuilt}
+use Rattle.dart_tool.specs.declared.status.Refusal.TheVariants.{NotFound, NotUtf8, BadToken, LeftOut, IntegerTooLarge, Syntax, TooDeep, TooLarge, BadDirective, ProgramTooLarge, Duplicate, NoMain, CyclicClasses, BadSuper, BadMixin, TypesTooLarge, NotConstant, BadLabel, BadConstructor, BadSwitch, BadWord, TooManyParameters, NotBuilt}
 
 -- the number with which the process ends
 abbrev pub status_number : Status → ℕ
 status_number Done = 0
 status_number Usage = 2
 status_number Refused = 3
+status_number Uncaught = 4
 status_number Limit = 6
 status_number ReadFault = 7
 status_number WriteFault = 8
@@ -39,6 +43,16 @@ refusal_text (BadDirective place) = codes "BadDirective"
 refusal_text ProgramTooLarge = codes "TooLarge"
 refusal_text (Duplicate place name) = codes "Duplicate"
 refusal_text NoMain = codes "NoMain"
+refusal_text (CyclicClasses place) = codes "CyclicClasses"
+refusal_text (BadSuper place) = codes "BadSuper"
+refusal_text (BadMixin place) = codes "BadMixin"
+refusal_text (TypesTooLarge place) = codes "TypesTooLarge"
+refusal_text (NotConstant place) = codes "NotConstant"
+refusal_text (BadLabel place) = codes "BadLabel"
+refusal_text (BadConstructor place) = codes "BadConstructor"
+refusal_text (BadSwitch place) = codes "BadSwitch"
+refusal_text (BadWord place) = codes "BadWord"
+refusal_text (TooManyParameters place) = codes "TooLarge"
 refusal_text NotBuilt = codes "NotBuilt"
 
 -- the refusal for a lexical reason; being out of memory is none
@@ -79,3 +93,17 @@ reason_refusal r.NotFound = NotFound
 reason_refusal (r.Text reason) = text_reason_refusal reason
 reason_refusal (r.LeftOut place feature) = LeftOut place feature
 reason_refusal (r.BadDirective place) = BadDirective place
+
+-- the refusal of a program whose units are loaded, for what is found at a place
+abbrev pub cause_refusal : Place → Cause → Refusal
+cause_refusal place c.CyclicClasses = CyclicClasses place
+cause_refusal place c.BadSuper = BadSuper place
+cause_refusal place c.BadMixin = BadMixin place
+cause_refusal place c.TypesTooLarge = TypesTooLarge place
+cause_refusal place (c.LeftOut feature) = LeftOut place feature
+cause_refusal place c.NotConstant = NotConstant place
+cause_refusal place c.BadLabel = BadLabel place
+cause_refusal place c.BadConstructor = BadConstructor place
+cause_refusal place c.BadSwitch = BadSwitch place
+cause_refusal place c.BadWord = BadWord place
+cause_refusal place c.TooManyParameters = TooManyParameters place

@@ -1,21 +1,27 @@
 // From the bytes of a file to what its program prints, to its text without annotations, or to the reason for which it is
 // refused.
-ghost use Rattle.std.specs.Prelude.{◌≡◌, IfOk, IfErr};
+ghost use Rattle.std.specs.Prelude.{◌≡◌, ◌↔◌, ◌<◌, ◌^◌, IfOk, IfErr, IsTrue, false};
 ghost use Rattle.dart_edge.specs.Fault.{Counts};
 ghost use Rattle.dart_front.specs.Texts.{ErasesTo};
-ghost use Rattle.dart_tool.specs.Language.{GivesRun, IsNoUnitFor, RefusedFor, Stops, stop_for};
-ghost use Rattle.dart_tool.specs.Program.{Judges, run_failed};
+ghost use Rattle.dart_execute.specs.Execution.{allowed};
+ghost use Rattle.scope_load.specs.State.{state_of};
+ghost use Rattle.dart_tool.specs.Language.{GivesEnd, IsNoUnitFor, IsWhole, RefusedFor, Stops, stop_for, usual};
+ghost use Rattle.dart_tool.specs.Program.{EndsAs, Judges, run_failed};
 ghost use Rattle.dart_tool.specs.Status.{text_refusal};
 
-use crate::program::{RunStop, check_program};
-use crate::run::Printed;
+use crate::program::{RunStop, execution_refusal, load_program};
+use crate::run::Ended;
 use crate::status::Refusal;
 use crate::subset::evaluate;
 use crate::subset::source::{Reading, reading_of};
 use dart_base::bytes::Bytes;
+use dart_base::limit::{USUAL_STEPS, USUAL_STORE_UNITS};
 use dart_edge::source::Sources;
+use dart_execute::execution::{Execution, execute};
 use dart_front::erased::erased_text;
 use dart_front::fault::TextFault;
+use dart_words::budget::Budget;
+use scope_load::loaded::Loaded;
 use std::alloc::Global;
 
 /// Why a text isn't erased.
@@ -46,26 +52,77 @@ impl From<TextFault> for Stop {
     }
 }
 
-/// Runs the program whose root has this name and text. None where it is refused for no reason, and yet no program of the
-/// subset that is built.
+// What becomes of a program whose units are loaded, with nothing against them.
+fn execute_loaded(alloc: Global, loaded: &Loaded, budget: Budget) -> Result<Option<Ended>, RunStop>
+    requires units { budget.units < 2 ^ 32 }
+    ensures answer { EndsAs (state_of loaded.now) (allowed budget) result }
+    ensures failed { run_failed result ≡ false }
+{
+    match execute(alloc, loaded, budget) {
+        Ok(Execution::Ran(made)) => Ok(Some(Ended::Whole(made))),
+        Ok(Execution::NotBuilt) => Ok(None),
+        Ok(Execution::Refused(place, cause)) => {
+            match execution_refusal(alloc, loaded, place, cause) {
+                Ok(against) => Err(RunStop::Refused(against)),
+                Err(_) => Err(RunStop::Memory),
+            }
+        }
+        Err(_) => Err(RunStop::Memory),
+    }
+}
+
+// Whether it is the budget of a run whose words say nothing of it.
+fn is_usual(budget: Budget) -> bool
+    ensures { IsTrue result ↔ (budget ≡ usual) }
+{
+    budget.steps == USUAL_STEPS && budget.units == USUAL_STORE_UNITS
+}
+
+// Runs a program that isn't run as one of the subset.
+fn run_whole<S: Sources>(
+    alloc: Global,
+    name: &str,
+    text: &[u8],
+    budget: Budget,
+    sources: &mut S,
+) -> Result<Option<Ended>, RunStop>
+    requires units { budget.units < 2 ^ 32 }
+    requires other { IsWhole text.now budget }
+    ensures runs { IfOk result (GivesEnd (S.files sources.old) name.now text.now budget) }
+    ensures answer { Judges (λ files. RefusedFor files name.now text.now budget) (S.files sources.old) name.now text.now result }
+    ensures same { S.files sources.new ≡ S.files sources.old }
+    ensures cause { Counts (run_failed result) (S.faults sources.old) (S.faults sources.new) }
+{
+    match load_program(alloc, name, text, sources) {
+        Ok(loaded) => execute_loaded(alloc, &loaded, budget),
+        Err(stop) => Err(stop),
+    }
+}
+
+/// Runs the program whose root has this name and text, within the budget. None where it is refused for no reason, and yet has what
+/// isn't built.
 pub fn run_text<S: Sources>(
     alloc: Global,
     name: &str,
     text: &[u8],
+    budget: Budget,
     sources: &mut S,
-) -> Result<Option<Printed>, RunStop>
-    ensures runs { IfOk result (GivesRun text.now) }
-    ensures answer { Judges (λ files. RefusedFor files name.now text.now) (S.files sources.old) name.now text.now result }
+) -> Result<Option<Ended>, RunStop>
+    requires units { budget.units < 2 ^ 32 }
+    ensures runs { IfOk result (GivesEnd (S.files sources.old) name.now text.now budget) }
+    ensures answer { Judges (λ files. RefusedFor files name.now text.now budget) (S.files sources.old) name.now text.now result }
     ensures same { S.files sources.new ≡ S.files sources.old }
     ensures cause { Counts (run_failed result) (S.faults sources.old) (S.faults sources.new) }
 {
+    if !is_usual(budget) {
+        return run_whole(alloc, name, text, budget, sources);
+    }
     match reading_of(alloc, text)? {
-        Reading::Source(statements) => Ok(Some(evaluate::run(alloc, &statements)?)),
-        Reading::Unfit => Ok(None),
-        Reading::Unspelled => {
-            check_program(alloc, name, text, sources)?;
-            Ok(None)
+        Reading::Source(statements) => {
+            Ok(Some(Ended::Printed(evaluate::run(alloc, &statements)?)))
         }
+        Reading::Unfit => run_whole(alloc, name, text, budget, sources),
+        Reading::Unspelled => run_whole(alloc, name, text, budget, sources),
     }
 }
 

@@ -3,13 +3,14 @@ ghost use Rattle.std.specs.Prelude.{◌≡◌, ◌↔◌, ℕ, List, Some, map};
 ghost use Rattle.std.specs.String.{string_bytes};
 ghost use Rattle.dart_edge.specs.Files.{Files, file_of};
 ghost use Rattle.dart_edge.specs.Memory.{safe_files, safe_written};
+ghost use Rattle.dart_words.specs.declared.budget.Budget.{Budget};
+ghost use Rattle.dart_words.specs.declared.words.Verb.TheVariants as v;
+ghost use Rattle.dart_words.specs.Words.{reading};
 ghost use Rattle.dart_tool.specs.declared.outcome.Outcome.{Outcome};
-ghost use Rattle.dart_tool.specs.Language.{DifferInAnnotationsAlone, Runs};
+ghost use Rattle.dart_tool.specs.Language.{DifferInAnnotationsAlone, Runs, usual};
 ghost use Rattle.dart_tool.specs.Laws.{AnswersSafely};
 ghost use Rattle.dart_tool.specs.Outcome.{FileGives, IsOutcome};
 ghost use Rattle.dart_tool.specs.Run.{Run};
-ghost use Rattle.dart_tool.specs.declared.words.Verb.TheVariants as v;
-ghost use Rattle.dart_tool.specs.Words.{reading};
 
 use crate::status::Status;
 use crate::tool::dart;
@@ -32,16 +33,17 @@ pub fn never_without_outcome()
         ((out : Outcome) → IsOutcome words files out → ⊥) → ⊥ }
 {}
 
-/// Type annotations of variables are never read: texts that differ in these alone have the same run and outcome.
+/// Type annotations of variables are never read: texts that differ in these alone, of which one is the source of a program of the
+/// subset, have the same run, and within the usual budget the same outcome.
 pub fn annotations_are_not_read()
-    ensures run { (text other : List ℕ) (run : Run) → DifferInAnnotationsAlone text other →
-        Runs text run ↔ Runs other run }
+    ensures run { (text other : List ℕ) (budget : Budget) (run : Run) → DifferInAnnotationsAlone text other →
+        Runs text budget run ↔ Runs other budget run }
     ensures file { (name : List ℕ) (files others : Files) (text other : List ℕ) (out : Outcome) →
         DifferInAnnotationsAlone text other →
-        FileGives name files (Some text) out ↔ FileGives name others (Some other) out }
+        FileGives name files usual (Some text) out ↔ FileGives name others usual (Some other) out }
     ensures outcome { (words : List (List ℕ)) (files others : Files)
         (name text other : List ℕ) (out : Outcome) →
-        reading words ≡ Some (record { verb = v.Run; file = name }) →
+        reading words ≡ Some (record { verb = v.Run usual; file = name }) →
         file_of files name ≡ Some text → file_of others name ≡ Some other →
         DifferInAnnotationsAlone text other →
         IsOutcome words files out ↔ IsOutcome words others out }

@@ -11,4 +11,3 @@ mod subset;
 #[cfg(test)]
 mod tests;
 pub mod tool;
-pub mod words;

@@ -1,21 +1,26 @@
 // What a file gives: the bytes that are written, and the status.
-ghost use Rattle.std.specs.Prelude.{◌≡◌, ◌++◌, false, Some, IfOk, IfSome};
+ghost use Rattle.std.specs.Prelude.{◌≡◌, ◌<◌, ◌^◌, ◌++◌, false, Some, IfOk, IfSome};
 ghost use Rattle.std.specs.Fmt.{decimal};
 ghost use Rattle.dart_edge.specs.Fault.{Counts};
 ghost use Rattle.dart_edge.specs.Files.{file_of};
 ghost use Rattle.dart_edge.specs.Reads.{read_failed};
 ghost use Rattle.dart_tool.specs.Outcome.{EraseGives, FileGives, VerbGives, refused, refusal_details, shown, named, named_place, transcript_of, is_cut_short};
+ghost use Rattle.dart_tool.specs.Outcome.{ended_outcome, finish_status, written_outcome};
 ghost use Rattle.dart_tool.specs.Program.{WhereHas};
+ghost use Rattle.dart_words.specs.Words.{KeepsLimits};
 
 use crate::language::{Stop, erase_text, run_text};
 use crate::program::RunStop;
-use crate::run::{Ending, Printed};
+use crate::run::{Ended, Ending, Printed};
 use crate::status::{Refusal, Status};
-use crate::words::Verb;
 use dart_base::bytes::Bytes;
 use dart_base::place::Place;
 use dart_edge::source::{SourceFault, Sources};
+use dart_run::written::Written;
+use dart_words::budget::Budget;
+use dart_words::words::Verb;
 use std::alloc::{AllocError, Global};
+use turn_text::finish::Finish;
 
 /// All that a run of the tool writes, and how it ends.
 #[derive(Drop)]
@@ -78,7 +83,17 @@ fn push_details(
         | Refusal::IntegerTooLarge(place)
         | Refusal::Syntax(place)
         | Refusal::TooDeep(place)
-        | Refusal::BadDirective(place) => push_place(alloc, line, *place, name),
+        | Refusal::BadDirective(place)
+        | Refusal::CyclicClasses(place)
+        | Refusal::BadSuper(place)
+        | Refusal::BadMixin(place)
+        | Refusal::TypesTooLarge(place)
+        | Refusal::NotConstant(place)
+        | Refusal::BadLabel(place)
+        | Refusal::BadConstructor(place)
+        | Refusal::BadSwitch(place)
+        | Refusal::BadWord(place)
+        | Refusal::TooManyParameters(place) => push_place(alloc, line, *place, name),
         Refusal::LeftOut(place, feature) => {
             push_place(alloc, line, *place, name)?;
             line.push(b' ')?;
@@ -128,22 +143,54 @@ pub fn transcript_of(printed: Printed) -> Result<Outcome, AllocError>
     }
 }
 
-// What `run` gives for the root with this name and text.
+fn finish_status(finish: Finish) -> Status
+    ensures { result ≡ finish_status finish }
+{
+    match finish {
+        Finish::Done => Status::Done,
+        Finish::Uncaught => Status::Uncaught,
+        Finish::Limit => Status::Limit,
+    }
+}
+
+// What a program of the whole language writes, and how it finishes.
+fn written_outcome(made: Written) -> Outcome
+    ensures { result ≡ written_outcome made }
+{
+    Outcome {
+        status: finish_status(made.finish),
+        bytes: made.bytes,
+    }
+}
+
+// What a program comes to that runs.
+fn ended_outcome(ended: Ended) -> Result<Outcome, AllocError>
+    ensures { IfOk result (λ out. out ≡ ended_outcome ended) }
+{
+    match ended {
+        Ended::Printed(printed) => transcript_of(printed),
+        Ended::Whole(made) => Ok(written_outcome(made)),
+    }
+}
+
+// What `run` gives within the budget for the root with this name and text.
 fn run_outcome<S: Sources>(
     alloc: Global,
+    budget: Budget,
     name: &str,
     text: &[u8],
     sources: &mut S,
 ) -> Result<Outcome, SourceFault>
+    requires units { budget.units < 2 ^ 32 }
     ensures gives { IfOk result (λ out. WhereHas (S.files sources.old) name.now text.now
-        (λ files. FileGives name.now files (Some text.now) out)) }
+        (λ files. FileGives name.now files budget (Some text.now) out)) }
     ensures ended { IfOk result (λ out. is_cut_short out.status ≡ false) }
     ensures usage { IfOk result (λ out. out.status ≡ Status.Usage → ⊥) }
     ensures same { S.files sources.new ≡ S.files sources.old }
     ensures cause { Counts (read_failed result) (S.faults sources.old) (S.faults sources.new) }
 {
-    match run_text(alloc, name, text, sources) {
-        Ok(Some(printed)) => Ok(transcript_of(printed)?),
+    match run_text(alloc, name, text, budget, sources) {
+        Ok(Some(ended)) => Ok(ended_outcome(ended)?),
         Ok(None) => Ok(refused(alloc, Refusal::NotBuilt, name.as_bytes())?),
         Err(RunStop::Refused(against)) => {
             Ok(refused(alloc, against.why, against.file.as_slice())?)
@@ -178,6 +225,7 @@ pub fn file_outcome<S: Sources>(
     content: Option<Bytes>,
     sources: &mut S,
 ) -> Result<Outcome, SourceFault>
+    requires limits { KeepsLimits verb }
     ensures gives { IfOk result (λ out. IfSome (S.files sources.old) (λ files. file_of files name.now ≡ content →
         VerbGives verb name.now files content out)) }
     ensures ended { IfOk result (λ out. is_cut_short out.status ≡ false) }
@@ -189,7 +237,7 @@ pub fn file_outcome<S: Sources>(
         return Ok(refused(alloc, Refusal::NotFound, name.as_bytes())?);
     };
     match verb {
-        Verb::Run => run_outcome(alloc, name, text.as_slice(), sources),
+        Verb::Run(budget) => run_outcome(alloc, budget, name, text.as_slice(), sources),
         Verb::Erase => Ok(erase_outcome(alloc, name.as_bytes(), text.as_slice())?),
     }
 }

@@ -1,5 +1,6 @@
 // What a run leaves behind.
 use dart_base::bytes::Bytes;
+use dart_run::written::Written;
 
 /// How a run ends.
 #[derive(Clone, Copy, Debug, PartialEq, Eq)]
@@ -15,4 +16,13 @@ pub enum Ending {
 pub struct Printed {
     pub bytes: Bytes,
     pub ending: Ending,
+}
+
+/// What a program comes to that runs.
+#[derive(Drop)]
+pub enum Ended {
+    /// A program of the subset printed this.
+    Printed(Printed),
+    /// A program of the whole language wrote this.
+    Whole(Written),
 }

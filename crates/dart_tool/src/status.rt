@@ -1,10 +1,11 @@
 // How a run of the tool ends, and why it refuses a program.
 ghost use Rattle.std.specs.Prelude.{◌≡◌};
-ghost use Rattle.dart_tool.specs.Status.{status_number, refusal_text, lexical_refusal, syntax_refusal, text_refusal, text_reason_refusal, reason_refusal};
+ghost use Rattle.dart_tool.specs.Status.{status_number, refusal_text, lexical_refusal, syntax_refusal, text_refusal, text_reason_refusal, reason_refusal, cause_refusal};
 
 use dart_base::bytes::Bytes;
 use dart_base::feature::Feature;
 use dart_base::place::Place;
+use dart_execute::cause::Cause;
 use dart_front::fault::TextFault;
 use dart_lex::lexer::LexFault;
 use parse_unit::fault::ParseFault;
@@ -20,6 +21,8 @@ pub enum Status {
     Usage,
     /// There is no file, or it isn't a program.
     Refused,
+    /// An exception left the program.
+    Uncaught,
     /// The program came to a limit of the language.
     Limit,
     /// A file could not be read.
@@ -39,6 +42,7 @@ impl Status {
             Status::Done => 0,
             Status::Usage => 2,
             Status::Refused => 3,
+            Status::Uncaught => 4,
             Status::Limit => 6,
             Status::ReadFault => 7,
             Status::WriteFault => 8,
@@ -74,7 +78,27 @@ pub enum Refusal {
     Duplicate(Place, Bytes),
     /// There is no function to begin with.
     NoMain,
-    /// The file is no program of the subset that is built so far.
+    /// A class is above itself, by the type here.
+    CyclicClasses(Place),
+    /// The type here is none that a class may have above it there.
+    BadSuper(Place),
+    /// The type here is no class that may be mixed in.
+    BadMixin(Place),
+    /// A type above a class has too many nodes, by the type here.
+    TypesTooLarge(Place),
+    /// The default value here is no literal.
+    NotConstant(Place),
+    /// The jump here has no target.
+    BadLabel(Place),
+    /// There is no such constructor, or it may not stand here.
+    BadConstructor(Place),
+    /// The cases of the switch here are neither all integers nor all strings.
+    BadSwitch(Place),
+    /// `this`, `super` or `rethrow` stands here where there is none.
+    BadWord(Place),
+    /// The list of parameters is too long here.
+    TooManyParameters(Place),
+    /// The program has what isn't built so far.
     NotBuilt,
 }
 
@@ -143,13 +167,34 @@ impl Refusal {
         }
     }
 
+    /// The refusal of a program whose units are loaded, for what is found at a place.
+    pub fn of_cause(place: Place, cause: Cause) -> Refusal
+        ensures { result ≡ cause_refusal place cause }
+    {
+        match cause {
+            Cause::CyclicClasses => Refusal::CyclicClasses(place),
+            Cause::BadSuper => Refusal::BadSuper(place),
+            Cause::BadMixin => Refusal::BadMixin(place),
+            Cause::TypesTooLarge => Refusal::TypesTooLarge(place),
+            Cause::LeftOut(feature) => Refusal::LeftOut(place, feature),
+            Cause::NotConstant => Refusal::NotConstant(place),
+            Cause::BadLabel => Refusal::BadLabel(place),
+            Cause::BadConstructor => Refusal::BadConstructor(place),
+            Cause::BadSwitch => Refusal::BadSwitch(place),
+            Cause::BadWord => Refusal::BadWord(place),
+            Cause::TooManyParameters => Refusal::TooManyParameters(place),
+        }
+    }
+
     /// The kind as the line of a refusal shows it.
     pub fn text(&self) -> &'static [u8]
         ensures { result.now ≡ refusal_text self.now }
     {
         match self {
             Refusal::NotFound => b"NotFound",
-            Refusal::TooLarge | Refusal::ProgramTooLarge => b"TooLarge",
+            Refusal::TooLarge | Refusal::ProgramTooLarge | Refusal::TooManyParameters(_) => {
+                b"TooLarge"
+            }
             Refusal::NotUtf8(_) => b"NotUtf8",
             Refusal::BadToken(_) => b"BadToken",
             Refusal::LeftOut(_, _) => b"LeftOut",
@@ -159,6 +204,15 @@ impl Refusal {
             Refusal::BadDirective(_) => b"BadDirective",
             Refusal::Duplicate(_, _) => b"Duplicate",
             Refusal::NoMain => b"NoMain",
+            Refusal::CyclicClasses(_) => b"CyclicClasses",
+            Refusal::BadSuper(_) => b"BadSuper",
+            Refusal::BadMixin(_) => b"BadMixin",
+            Refusal::TypesTooLarge(_) => b"TypesTooLarge",
+            Refusal::NotConstant(_) => b"NotConstant",
+            Refusal::BadLabel(_) => b"BadLabel",
+            Refusal::BadConstructor(_) => b"BadConstructor",
+            Refusal::BadSwitch(_) => b"BadSwitch",
+            Refusal::BadWord(_) => b"BadWord",
             Refusal::NotBuilt => b"NotBuilt",
         }
     }

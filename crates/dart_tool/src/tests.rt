@@ -77,17 +77,50 @@ fn programs(rt: HostRuntime) -> Result<(), AllocError> {
         ),
         (
             "main() { print(a); var a = 1; }",
-            NOT_BUILT,
-            Status::Refused,
+            "** uncaught a.dart:1 NoSuchMethodError: a\n",
+            Status::Uncaught,
         ),
-        ("main() { var a = a; }", NOT_BUILT, Status::Refused),
+        (
+            "main() {\nvar a = a; }",
+            "** uncaught a.dart:2 NoSuchMethodError: a\n",
+            Status::Uncaught,
+        ),
         (
             "main() { var a = 1; int a = 2; print(a); }",
+            "** refused Duplicate a.dart:1:25 a\n",
+            Status::Refused,
+        ),
+        ("main() { var print = 1; }", "", Status::Done),
+        (
+            "main() { print('a' + 1); }",
+            "** uncaught a.dart:1 ArgumentError\n",
+            Status::Uncaught,
+        ),
+        (
+            "class C { var a; C(this.a); b() => () => a++; } main() { var c = new C(6); c.b()(); print('${c.a}'); }",
+            "7\n",
+            Status::Done,
+        ),
+        (
+            "main() { for (;;) { } }",
+            "** limit OutOfSteps\n",
+            Status::Limit,
+        ),
+        (
+            "class A extends A { } main() { }",
+            "** refused CyclicClasses a.dart:1:17\n",
+            Status::Refused,
+        ),
+        (
+            "main() { break; }",
+            "** refused BadLabel a.dart:1:10\n",
+            Status::Refused,
+        ),
+        (
+            "const one = 1; main() { print(one); }",
             NOT_BUILT,
             Status::Refused,
         ),
-        ("main() { var print = 1; }", NOT_BUILT, Status::Refused),
-        ("main() { print('a' + 1); }", NOT_BUILT, Status::Refused),
         (
             "main() { print(1 +); }",
             "** refused Syntax a.dart:1:19\n",
@@ -184,7 +217,7 @@ fn reasons(rt: HostRuntime) -> Result<(), AllocError> {
             b"main() { assert(true); }",
             "** refused LeftOut a.dart:1:10 Assert\n",
         ),
-        (b"main() { var a$ = 1; }", NOT_BUILT),
+        (b"const a$ = 1; main() { }", NOT_BUILT),
         (
             b"main() {\n\tprint(1.5); #}",
             "** refused LeftOut a.dart:2:8 Doubles\n",
@@ -240,10 +273,7 @@ fn sizes(rt: HostRuntime) -> Result<(), AllocError> {
 fn lengths(rt: HostRuntime) -> Result<(), AllocError> {
     let alloc = rt.alloc();
     let words = words(alloc, &["run", "a.dart"])?;
-    for (length, want, status) in [
-        (10_000, "3\n", Status::Done),
-        (10_001, NOT_BUILT, Status::Refused),
-    ] {
+    for (length, want, status) in [(10_000, "3\n", Status::Done), (10_001, "3\n", Status::Done)] {
         let mut text = Vec::from_slice(alloc, ONE_SUM.as_bytes())?;
         text.resize(length, b'\n')?;
         let mut sources = NoFaultSources::new(alloc, files(alloc, &text)?);
@@ -269,7 +299,13 @@ fn words_without_a_program(rt: HostRuntime) -> Result<(), AllocError> {
             "** refused NotFound a   b\n",
             Status::Refused,
         ),
+        (
+            ["run", "--units", "7", "--steps", "9", "b.dart"].as_slice(),
+            "** refused NotFound b.dart\n",
+            Status::Refused,
+        ),
         (["run"].as_slice(), USAGE, Status::Usage),
+        (["run", "--steps", "9"].as_slice(), USAGE, Status::Usage),
         ([].as_slice(), USAGE, Status::Usage),
         (["run", ""].as_slice(), USAGE, Status::Usage),
         (["run", "-a.dart"].as_slice(), USAGE, Status::Usage),

@@ -2,16 +2,16 @@
 ghost use Rattle.std.specs.Prelude.{◌≡◌, false, None, Some, IfSome, map};
 ghost use Rattle.std.specs.String.{string_bytes};
 ghost use Rattle.dart_edge.specs.Fault.{Counts};
-ghost use Rattle.dart_tool.specs.Words.{reading};
+ghost use Rattle.dart_words.specs.Words.{KeepsLimits, reading};
 ghost use Rattle.dart_tool.specs.Outcome.{CommandGives, IsOutcome, usage_outcome, is_cut_short};
 ghost use Rattle.dart_tool.specs.Tool.{Answers, Delivers, is_read_fault, is_write_fault};
 
 use crate::outcome::file_outcome;
 use crate::status::Status;
-use crate::words::{Verb, command};
 use dart_edge::gate::Gate;
 use dart_edge::sink::{Sink, SinkFault, write_whole};
 use dart_edge::source::{SourceFault, Sources};
+use dart_words::words::{Verb, command};
 use std::alloc::Global;
 use std::marker::Sync;
 use std::sync::Wait;
@@ -43,6 +43,7 @@ fn do_verb<S: Sources, K: Sink>(
     sources: &mut S,
     sink: &mut K,
 ) -> Status
+    requires limits { KeepsLimits verb }
     ensures answer { IfSome (S.files sources.old) (λ files.
         Answers (CommandGives (Some (record { verb = verb; file = file.now })) files) result
         (K.written sink.old) (K.written sink.new)) }

@@ -70,6 +70,10 @@ pub record IsSource (text : List ℕ) (statements : List Statement) : Type 0 whe
 abbrev pub SpellsNoProgram : List ℕ → Type 0
 SpellsNoProgram text = (statements : List Statement) → SpellsProgram text statements → ⊥
 
+-- The text is the source of none.
+abbrev pub IsNoSource : List ℕ → Type 0
+IsNoSource text = (statements : List Statement) → IsSource text statements → ⊥
+
 -- What a text is to the subset: the source of a program, or one that spells a program and is the source of none, or one that
 -- spells none.
 abbrev pub IsReading : List ℕ → Reading → Type 0

@@ -64,7 +64,10 @@ fn reasons_of_a_directive(rt: HostRuntime) -> Result<(), AllocError> {
             "** refused LeftOut a.dart:1:25 Uris\n",
         ),
         ("import 'dart:isolate'; main() {}", NOT_BUILT),
-        ("import 'a.dart'; main() {}", NOT_BUILT),
+        (
+            "import 'a.dart'; import 'dart:isolate'; main() {}",
+            NOT_BUILT,
+        ),
     ] {
         refuses(&rt, alloc, &[("a.dart", text)], want)?;
     }
@@ -108,10 +111,14 @@ fn reasons_of_a_second_file(rt: HostRuntime) -> Result<(), AllocError> {
         ),
         (
             "library l; part 'b.dart'; main() {}",
-            "part of l; var x;",
+            "part of l; const x = 1;",
             NOT_BUILT,
         ),
-        ("import 'b.dart'; main() {}", "import 'a.dart';", NOT_BUILT),
+        (
+            "import 'b.dart'; main() {}",
+            "import 'a.dart'; import 'dart:isolate';",
+            NOT_BUILT,
+        ),
     ] {
         refuses(&rt, alloc, &[("a.dart", root), ("b.dart", second)], want)?;
     }

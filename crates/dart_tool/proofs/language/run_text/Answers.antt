@@ -1,36 +1,29 @@
-use Rattle.std.proofs.Common.{Option, subst}
-use Rattle.std.proofs.lemmas.Result.{err_from_is_err_and}
-use Rattle.dart_tool.specs.declared.run.Printed.{Printed}
+use Rattle.std.proofs.Common.{rules, ◌≡◌, ◌⊎◌, inl, inr, subst}
 use Rattle.dart_tool.specs.declared.subset.source.Reading.{Reading}
-use Rattle.dart_tool.specs.declared.subset.source.Reading.TheVariants.{Source, Unfit}
-use Rattle.dart_tool.specs.Subset.Program.{IsReading, SpellsNoProgram}
-use Rattle.dart_tool.proofs.LanguageLaws.{told_spelled, told_checked, told_stopped, no_program_no_run}
+use Rattle.dart_tool.specs.declared.subset.source.Reading.TheVariants.{Source, Unfit, Unspelled}
+use Rattle.dart_tool.specs.Language.{usual}
+use Rattle.dart_tool.specs.Subset.Program.{IsReading}
+use Rattle.dart_tool.proofs.LanguageLaws.{told_source}
 use Rattle.dart_tool.proofs.language.run_text.Goals as goal
+
+pub run_whole-requires-clause-other : goal.run_whole-requires-clause-other
+run_whole-requires-clause-other g c = inr (λ usually. search (rules, usually, c.is_usual.ensures, c.if-not-is_usual.true))
 
 pub returns-in_ok-run-in-Source-clause-answer : goal.returns-in_ok-run-in-Source-clause-answer
 returns-in_ok-run-in-Source-clause-answer g c =
     let text = c.args.text.now in
     let source : IsReading text (Source c.in-Source.statements) = subst (λ (x : Reading). IsReading text x) c.in-Source.is c.in_ok-statements.ensures in
-    told_spelled (g.S.Sources.files c.args.sources.now) c.args.name.now text c.in-Source.statements.items source.spells
+    let usually : c.args.budget ≡ usual = search (rules, c.is_usual.ensures, c.if-not-is_usual.false) in
+    told_source (g.S.Sources.files c.args.sources.now) c.args.name.now text c.args.budget c.in-Source.statements.items source usually
 
-pub returns-in-Unfit-clause-answer : goal.returns-in-Unfit-clause-answer
-returns-in-Unfit-clause-answer g c =
+pub run_whole-requires-in-Unfit-clause-other : goal.run_whole-requires-in-Unfit-clause-other
+run_whole-requires-in-Unfit-clause-other g c =
     let text = c.args.text.now in
     let unfit : IsReading text Unfit = subst (λ (x : Reading). IsReading text x) c.in-Unfit.is c.in_ok-statements.ensures in
-    told_spelled (g.S.Sources.files c.args.sources.now) c.args.name.now text unfit.0.0 unfit.0.1
+    inl unfit.1
 
-pub returns-in_err-check_program-in-Unspelled-clause-answer : goal.returns-in_err-check_program-in-Unspelled-clause-answer
-returns-in_err-check_program-in-Unspelled-clause-answer g c =
+pub run_whole-requires-in-Unspelled-clause-other : goal.run_whole-requires-in-Unspelled-clause-other
+run_whole-requires-in-Unspelled-clause-other g c =
     let text = c.args.text.now in
-    let none : SpellsNoProgram text = subst (λ (x : Reading). IsReading text x) c.in-Unspelled.is c.in_ok-statements.ensures in
-    let p = err_from_is_err_and c.from_residual-in_err-check_program-in-Unspelled.result c.from_residual-in_err-check_program-in-Unspelled.ensures.1 in
-    rw (p.1, p.2) (told_stopped (Unit {0}) (Option Printed) (g.S.Sources.files c.args.sources.now) c.args.name.now text _ none c.in_err-check_program-in-Unspelled.ensures.answer)
-
-pub returns-in_ok-check_program-in-Unspelled-clause-answer : goal.returns-in_ok-check_program-in-Unspelled-clause-answer
-returns-in_ok-check_program-in-Unspelled-clause-answer g c =
-    told_checked (g.S.Sources.files c.args.sources.now) c.args.name.now c.args.text.now c.in_ok-check_program-in-Unspelled.ensures.answer
-
-pub returns-in_ok-check_program-in-Unspelled-clause-runs : goal.returns-in_ok-check_program-in-Unspelled-clause-runs
-returns-in_ok-check_program-in-Unspelled-clause-runs g c =
-    let text = c.args.text.now in
-    no_program_no_run text (subst (λ (x : Reading). IsReading text x) c.in-Unspelled.is c.in_ok-statements.ensures)
+    let none : IsReading text Unspelled = subst (λ (x : Reading). IsReading text x) c.in-Unspelled.is c.in_ok-statements.ensures in
+    inl (λ statements source. none statements source.spells)
