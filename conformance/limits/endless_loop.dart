@@ -1,0 +1,4 @@
+main() {
+  print('on');
+  while (true) {}
+}

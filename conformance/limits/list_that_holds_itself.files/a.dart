@@ -1,0 +1,5 @@
+main() {
+  var list = [];
+  list.add(list);
+  print(list);
+}

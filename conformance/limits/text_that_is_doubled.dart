@@ -1,0 +1,4 @@
+main() {
+  var text = 'ab';
+  while (true) text = text + text;
+}

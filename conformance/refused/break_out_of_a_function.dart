@@ -1,0 +1,7 @@
+main() {
+  while (true) {
+    [1].forEach((x) {
+      break;
+    });
+  }
+}

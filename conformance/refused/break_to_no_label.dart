@@ -1,0 +1,5 @@
+main() {
+  a: while (true) {
+    break b;
+  }
+}

@@ -1,1 +1,0 @@
-main() { var get = 1; }

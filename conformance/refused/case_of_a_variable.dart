@@ -1,0 +1,6 @@
+main() {
+  var x = 1;
+  switch (1) {
+    case x: break;
+  }
+}

@@ -1,0 +1,5 @@
+class Circle extends Shape {}
+
+class Shape extends Circle {}
+
+main() {}

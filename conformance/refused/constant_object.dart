@@ -1,0 +1,5 @@
+class P {
+  const P();
+}
+
+main() { print(const P()); }

@@ -1,0 +1,3 @@
+const limit = 3;
+
+main() { print(limit); }

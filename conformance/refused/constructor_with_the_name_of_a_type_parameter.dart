@@ -1,7 +1,0 @@
-class A<A> {
-  var x;
-  A(this.x);
-  A.x();
-}
-
-main() {}

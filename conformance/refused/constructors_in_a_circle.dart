@@ -1,0 +1,6 @@
+class A {
+  A() : this.b();
+  A.b() : this();
+}
+
+main() {}

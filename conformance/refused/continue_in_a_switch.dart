@@ -1,0 +1,6 @@
+main() {
+  switch (1) {
+    case 1:
+      continue;
+  }
+}

@@ -1,0 +1,3 @@
+total(items, [counted = []]) => items.length + counted.length;
+
+main() {}

@@ -1,0 +1,3 @@
+enum Color { red, green }
+
+main() { print(Color.red); }

@@ -1,0 +1,3 @@
+@slow external int now();
+
+main() {}

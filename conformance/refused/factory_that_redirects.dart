@@ -1,0 +1,6 @@
+class A {
+  A.b();
+  factory A() = A.b;
+}
+
+main() {}

@@ -1,0 +1,6 @@
+class A {
+  var x;
+  m(this.x) {}
+}
+
+main() {}

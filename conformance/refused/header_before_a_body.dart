@@ -1,0 +1,5 @@
+main() {
+  break;
+}
+
+class A extends int {}

@@ -1,3 +1,0 @@
-import 'import_of_itself.dart';
-
-main() {}

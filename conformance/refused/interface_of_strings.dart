@@ -1,0 +1,3 @@
+class A implements Comparable, String {}
+
+main() {}

@@ -1,0 +1,3 @@
+import 'dart:isolate';
+
+main() { print('alone'); }

@@ -1,0 +1,5 @@
+class A extends Object with M {}
+
+class M implements A {}
+
+main() {}

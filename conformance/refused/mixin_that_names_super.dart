@@ -1,0 +1,7 @@
+class M {
+  m() => super.toString();
+}
+
+class C extends Object with M {}
+
+main() {}

@@ -1,0 +1,7 @@
+class S {}
+
+class M extends S {}
+
+class C = Object with M;
+
+main() {}

@@ -1,8 +1,0 @@
-var a;
-
-f(a) {
-  var a;
-  { var a; }
-}
-
-main() {}

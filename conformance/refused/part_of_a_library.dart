@@ -1,3 +1,0 @@
-library l; part 'p.dart';
-
-main() {}

@@ -1,0 +1,3 @@
+f() {
+  return this;
+}

@@ -1,0 +1,5 @@
+import 'b.dart';
+
+main() {
+  continue;
+}

@@ -1,0 +1,9 @@
+main() {
+  try {
+    print(1);
+  } catch (error) {
+    print(error);
+  } finally {
+    rethrow;
+  }
+}

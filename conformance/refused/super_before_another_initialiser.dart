@@ -1,0 +1,6 @@
+class A {
+  var x;
+  A() : super(), x = 1;
+}
+
+main() {}

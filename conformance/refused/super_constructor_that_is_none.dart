@@ -1,0 +1,9 @@
+class S {
+  S.named();
+}
+
+class A extends S {
+  A() : super();
+}
+
+main() {}

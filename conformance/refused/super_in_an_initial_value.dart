@@ -1,0 +1,5 @@
+class A {
+  var x = () => super.toString();
+}
+
+main() {}

@@ -1,0 +1,5 @@
+typedef F();
+
+class A extends F {}
+
+main() {}

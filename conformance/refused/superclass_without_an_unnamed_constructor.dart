@@ -1,0 +1,7 @@
+class S {
+  S.named();
+}
+
+class A extends S {}
+
+main() {}

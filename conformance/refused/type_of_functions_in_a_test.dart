@@ -1,0 +1,5 @@
+typedef int Order(a, b);
+
+main() {
+  print(1 is Order);
+}

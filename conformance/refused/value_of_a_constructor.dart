@@ -1,0 +1,7 @@
+class A {
+  A() {
+    if (true) return 1;
+  }
+}
+
+main() {}

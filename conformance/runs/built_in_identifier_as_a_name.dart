@@ -1,0 +1,1 @@
+main() { var get = 1; print(get); }

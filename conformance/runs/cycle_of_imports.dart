@@ -1,0 +1,3 @@
+import 'b.dart';
+
+main() { print('round'); }

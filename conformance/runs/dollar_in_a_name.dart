@@ -1,0 +1,1 @@
+main() { var a$b = 1; print(a$b); }

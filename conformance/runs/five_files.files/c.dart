@@ -1,0 +1,5 @@
+library c;
+import 'b.dart' hide b;
+part 'e.dart';
+
+f(x) => g(new D(x));

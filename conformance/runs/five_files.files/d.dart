@@ -1,0 +1,6 @@
+import 'd.dart';
+
+class D {
+  final x;
+  D(this.x);
+}

@@ -1,0 +1,3 @@
+part of c;
+
+g(d) => d.x;

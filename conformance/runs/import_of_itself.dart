@@ -1,0 +1,3 @@
+import 'import_of_itself.dart';
+
+main() { print('once'); }

@@ -1,0 +1,3 @@
+part of l;
+
+main() { print('in a part'); }

@@ -1,0 +1,3 @@
+main(words) {
+  print('$words ${words is List<String>} ${words is List<int>}');
+}

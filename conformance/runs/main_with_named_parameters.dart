@@ -1,0 +1,1 @@
+main({a, b}) { print('$a $b'); }

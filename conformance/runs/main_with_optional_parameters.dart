@@ -1,0 +1,1 @@
+main(a, [b, c]) { print('$a $b $c'); }

@@ -1,0 +1,3 @@
+export 'd.dart' show deep;
+
+var shared = 'shared of c';

@@ -1,0 +1,2 @@
+var deep = 'deep of d';
+var deeper = 'deeper of d';

@@ -1,0 +1,3 @@
+library l; part 'p.dart';
+
+main() { print(x); }

@@ -1,0 +1,3 @@
+part of l;
+
+var x = 'of the part';

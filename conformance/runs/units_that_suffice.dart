@@ -1,0 +1,1 @@
+main() { print("a"); var l = [1, 2, 3]; }

@@ -1,0 +1,4 @@
+main() {
+  var x =
+      'a' as int;
+}

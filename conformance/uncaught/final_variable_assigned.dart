@@ -1,0 +1,5 @@
+final limit = 3;
+
+main() {
+  limit = 4;
+}

@@ -1,0 +1,6 @@
+class Dog {}
+
+main() {
+  var dog = new Dog();
+  dog.bark();
+}

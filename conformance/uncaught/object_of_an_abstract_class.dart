@@ -1,0 +1,5 @@
+abstract class A {}
+
+main() {
+  new A();
+}

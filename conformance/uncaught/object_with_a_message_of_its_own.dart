@@ -1,0 +1,7 @@
+class Odd {
+  final message = 'not shown';
+}
+
+main() {
+  throw new Odd();
+}

@@ -1,0 +1,6 @@
+read(text) =>
+    int.parse(text);
+
+main() {
+  read('seven');
+}

@@ -1,0 +1,7 @@
+class A {
+  toString() => 5;
+}
+
+main() {
+  print(new A());
+}

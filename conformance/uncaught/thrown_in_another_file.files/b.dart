@@ -1,0 +1,5 @@
+// Fails.
+
+fail() {
+  throw 'from b';
+}

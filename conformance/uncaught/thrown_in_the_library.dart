@@ -1,0 +1,6 @@
+main() {
+  var list = [];
+  print('empty');
+  list
+    .removeLast();
+}

@@ -1,0 +1,1 @@
+main() => throw null;

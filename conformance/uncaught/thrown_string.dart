@@ -1,0 +1,9 @@
+f() {
+  throw
+    'over\ntwo lines';
+}
+
+main() {
+  print('before');
+  f();
+}

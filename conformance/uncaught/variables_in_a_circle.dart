@@ -1,0 +1,6 @@
+var a = b;
+var b = a;
+
+main() {
+  print(a);
+}
