@@ -17,7 +17,7 @@ use dart_ir::value::Value;
 use machine_call::callables::apply;
 use machine_flow::calls::{after_call, after_init, go_back, settle};
 use machine_flow::handlers::{finish_try, leave_handler, leave_refused, leave_try};
-use machine_flow::jumps::{leave_body, leave_label};
+use machine_flow::jumps::{leave_body, leave_label, leave_update};
 use machine_form::operands::{finish_binary, finish_unary};
 use machine_form::operations::second_operand;
 use machine_form::rows::next;
@@ -143,7 +143,7 @@ fn passed_by<'a>(
         Frame::Row(_, _, _, _, count) => Ok(leave_operands(run, a, count, exit)),
         Frame::Test(_) => Ok(Control::Leave(exit)),
         Frame::Body(turn) => leave_body(run, a, turn, exit),
-        Frame::Update(_) => Ok(Control::Leave(exit)),
+        Frame::Update(turn) => leave_update(run, a, turn, exit),
         Frame::Returning => Ok(Control::Leave(exit)),
         Frame::Labelled(target) => Ok(leave_label(run, a, target, exit)),
         Frame::Is(_) => Ok(Control::Leave(exit)),

@@ -20,7 +20,7 @@ use Rattle.evaluation.specs.Objects.{add, throw_new}
 use Rattle.evaluation.specs.Variables.{Room, in_slot, in_cell, has_cell, room, variable, write_in, write, with_slot, slot_filled, declared, declare, copied, copy, copies, cells_for, make_closure, field_total, field_written, field_write, settled, static_written, static_write}
 use Rattle.evaluation.specs.Types.{is_small, closed, with_type, are_small, all_closed, with_types, is_of, is_type, passes_cast, cast, as_type, type_object}
 use Rattle.evaluation.specs.Creation.{new_list, joined, joined_to, join}
-use Rattle.evaluation.specs.Statements.{done, left_by, labelled, loop_jump, after_body, going_on, body_of_turn, turn, turns, loop, ClauseTest, takes, Clause, declare_if, trace_for, with_caught, forgetting, handle, handling, handled, caught_by, tried, then_ends, finally, thrown_again, rethrow}
+use Rattle.evaluation.specs.Statements.{done, left_by, labelled, loop_jump, after_body, after_update, going_on, body_of_turn, turn, turns, loop, ClauseTest, takes, Clause, declare_if, trace_for, with_caught, forgetting, handle, handling, handled, caught_by, tried, then_ends, finally, thrown_again, rethrow}
 use Rattle.evaluation.proofs.Logic.{clear, Logic, steps, answers, chosen_rel, Rows, no_rows, row_more, in_order_rel, own, own_adds, throw_new_rel}
 
 module _ {Rel : Meaning → Meaning → Type 0} (k : Logic Rel) where
@@ -172,11 +172,21 @@ module _ {Rel : Meaning → Meaning → Type 0} (k : Logic Rel) where
       cases (jumps w m) = loop_jump_rel (nat_eq m n) w m next next' r
       cases c = k.stays c
 
+  pub after_update_rel : (n : ℕ) (next next' : Meaning) → Rel next next' → (d d' : Meaning) → Rel d d' →
+      Rel (λ st. after_update n next (d st)) (λ st. after_update n next' (d' st))
+  after_update_rel n next next' r d d' q = k.bind (after_update n next) (after_update n next') (clear (λ e st. refl))
+      (clear (λ e st. refl)) cases d d' q
+    where
+      cases : (c : Completion) → Rel (λ st. after_update n next (ends c st)) (λ st. after_update n next' (ends c st))
+      cases (answer v) = r
+      cases (jumps w m) = left_by_rel (nat_eq m n) w m
+      cases c = k.stays c
+
   module _ (s : Setting) (n : ℕ) (xs : List ℕ) (c c' u u' b b' : Meaning) (rc : Rel c c') (ru : Rel u u') (rb : Rel b b') where
-    pub going_on_rel : (next next' : Meaning) → Rel next next' → Rel (going_on s xs u next) (going_on s xs u' next')
+    pub going_on_rel : (next next' : Meaning) → Rel next next' → Rel (going_on s n xs u next) (going_on s n xs u' next')
     going_on_rel next next' r =
-        answers k (λ _ st. on_answer (λ _. next) (u st)) (λ _ st. on_answer (λ _. next') (u' st))
-        (λ _. answers k (λ _. next) (λ _. next') (λ _. r) u u' ru) (copies s xs) (copies s xs) (copies_rel s xs)
+        answers k (λ _ st. after_update n next (u st)) (λ _ st. after_update n next' (u' st))
+        (λ _. after_update_rel n next next' r u u' ru) (copies s xs) (copies s xs) (copies_rel s xs)
 
     pub turn_rest_rel : (next next' : Meaning) → Rel next next' → (v : Value) →
         Rel (branch v (body_of_turn s n xs u b next) done) (branch v (body_of_turn s n xs u' b' next') done)

@@ -43,12 +43,18 @@ after_body n next (ends (answer v) st) = next st
 after_body n next (ends (jumps w m) st) = loop_jump (nat_eq m n) w m next st
 after_body n next (ends c st) = ends c st
 
+-- The end of an update: the loop goes on, or a break of it leaves it, as where the condition of a `do` fails.
+abbrev pub after_update : ℕ → Meaning → Outcome → Outcome
+after_update n next (ends (answer v) st) = next st
+after_update n next (ends (jumps w m) st) = left_by (nat_eq m n) w m st
+after_update n next (ends c st) = ends c st
+
 -- fresh copies of the variables, the update, and what comes next
-abbrev pub going_on : Setting → List ℕ → Meaning → Meaning → Meaning
-going_on s xs update next st = on_answer (λ _ st. on_answer (λ _. next) (update st)) (copies s xs st)
+abbrev pub going_on : Setting → ℕ → List ℕ → Meaning → Meaning → Meaning
+going_on s n xs update next st = on_answer (λ _ st. after_update n next (update st)) (copies s xs st)
 
 abbrev pub body_of_turn : Setting → ℕ → List ℕ → Meaning → Meaning → Meaning → Meaning
-body_of_turn s n xs update body next st = after_body n (going_on s xs update next) (body st)
+body_of_turn s n xs update body next st = after_body n (going_on s n xs update next) (body st)
 
 -- One turn: a step, the condition, the body where it holds, and what comes next.
 abbrev pub turn : Setting → ℕ → List ℕ → Meaning → Meaning → Meaning → Meaning → Meaning

@@ -6,14 +6,14 @@ ghost use Rattle.evaluation.specs.Statements as s;
 ghost use Rattle.machine_frame.specs.declared.run.Control.TheVariants.{Leave};
 ghost use Rattle.std.specs.List.{list_any};
 ghost use Rattle.machine_frame.specs.Labels.{labels, labelled_all};
-ghost use Rattle.machine_frame.specs.Frames.{next_turn, going, does, room, work, completed};
+ghost use Rattle.machine_frame.specs.Frames.{next_turn, updated, going, does, room, work, completed};
 
 use core_program::form::{Core, Form, Way};
 use dart_ir::value::Value;
 use machine_frame::around::{Around, Fault};
 use machine_frame::moves::answer;
 use machine_frame::run::{Control, Exit, Run, Turn};
-use machine_loop::loops::update;
+use machine_loop::loops::{begin_turn, update};
 
 /// A turn's body is left: the loop goes on, is left, or is passed by.
 pub fn leave_body<'a>(
@@ -51,6 +51,45 @@ fn jump_from_body<'a>(
         Way::Break => Ok(answer(run, a, Value::Null)),
         Way::Continue => update(run, a, turn),
         Way::Case(index) => Ok(Control::Leave(Exit::Jumps(Way::Case(index), target))),
+    }
+}
+
+/// A turn's update is left: the loop goes on, is left, or is passed by.
+pub fn leave_update<'a>(
+    run: &mut Run<'a>,
+    a: Around<'a>,
+    turn: Turn<'a>,
+    exit: Exit,
+) -> Result<Control<'a>, Fault>
+    ensures meaning { IfOk result (λ c. going a.entry run.new c ≡ does a.entry run.old (λ w st. updated w turn.entry (ends (completed exit run.old.answer) st))) }
+    ensures less { IfOk result (λ c. work run.new c < 1 + work run.old (Leave exit)) }
+{
+    match exit {
+        Exit::Answered => begin_turn(run, a, turn),
+        Exit::Jumps(way, target) => Ok(jump_from_update(run, a, turn, way, target)),
+        Exit::Returns => Ok(Control::Leave(Exit::Returns)),
+        Exit::Throws(place) => Ok(Control::Leave(Exit::Throws(place))),
+        Exit::Over(limit) => Ok(Control::Leave(Exit::Over(limit))),
+    }
+}
+
+fn jump_from_update<'a>(
+    run: &mut Run<'a>,
+    a: Around<'a>,
+    turn: Turn<'a>,
+    way: Way,
+    target: u32,
+) -> Control<'a>
+    ensures meaning { going a.entry run.new result ≡ does a.entry run.old (λ w st. s.left_by (nat_eq target turn.entry.target) way target st) }
+    ensures less { work run.new result < room run.old + 6 }
+{
+    if target != turn.target {
+        return Control::Leave(Exit::Jumps(way, target));
+    }
+    match way {
+        Way::Break => answer(run, a, Value::Null),
+        Way::Continue => Control::Leave(Exit::Jumps(Way::Continue, target)),
+        Way::Case(index) => Control::Leave(Exit::Jumps(Way::Case(index), target)),
     }
 }
 

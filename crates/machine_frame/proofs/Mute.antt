@@ -147,7 +147,8 @@ module _ (a : Around) (d : ℕ) where
   resumed_keeps b (f.Test t) y = going_on _ (rest_kept t) y
   resumed_keeps b (f.Body t) y =
       p.after_body_rel kept_logic t.target (next_turn (world_in a d) t) (next_turn (world_in a d) t) (next_kept t) (λ st. ends y st) (λ st. ends y st) (kept_ends y)
-  resumed_keeps b (f.Update t) y = going_on _ (λ _. loop_kept t) y
+  resumed_keeps b (f.Update t) y =
+      p.after_update_rel kept_logic t.target (loop_of (world_in a d) t) (loop_of (world_in a d) t) (loop_kept t) (λ st. ends y st) (λ st. ends y st) (kept_ends y)
   resumed_keeps b f.Returning y = going_on _ (λ x. kept_ends (returns x)) y
   resumed_keeps b (f.Labelled one) y = labels_keep (labels (v.core one.now)) y
   resumed_keeps b (f.Is t) y = going_on _ (p.is_type_rel kept_logic S (ty t.now)) y

@@ -136,11 +136,11 @@ loop_of w t =
 
 -- the update of a turn, and the next one
 abbrev pub updated : World → Turn → Outcome → Outcome
-updated w t o = on_answer (λ _. loop_of w t) o
+updated w t o = s.after_update t.target (loop_of w t) o
 
 -- what follows a turn's body
 abbrev pub next_turn : World → Turn → Meaning
-next_turn w t = s.going_on w.setting t.copies.now (part (v.part t.update.now) w Null) (loop_of w t)
+next_turn w t = s.going_on w.setting t.target t.copies.now (part (v.part t.update.now) w Null) (loop_of w t)
 
 -- what follows a turn's condition
 abbrev pub tested : World → Turn → Value → Meaning

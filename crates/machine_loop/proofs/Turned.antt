@@ -36,5 +36,5 @@ pub copied_then : (a : Around) (r r' : Run) (t : Turn) (held : Option Value) (x 
 copied_then a r r' t held x some copied beside =
     let w = world_in a r.depth in
     beside_does a r r' beside (λ w st. updated w t (part (v.part t.update.now) w Null st))
-    ∙ ap (λ (o : Outcome). mute (resume a (below_of r) r.frames.items (on_answer (λ _ st. on_answer (λ _. loop_of w t) (part (v.part t.update.now) w Null st)) o)))
+    ∙ ap (λ (o : Outcome). mute (resume a (below_of r) r.frames.items (on_answer (λ _ st. updated w t (part (v.part t.update.now) w Null st)) o)))
     (sym (copied ∙ ap (λ (h : Option Value). ends (value_or_full h) (seen r')) some))

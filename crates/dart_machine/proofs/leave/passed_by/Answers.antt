@@ -24,7 +24,7 @@ pub returns-in-Test-clause-meaning : goal.returns-in-Test-clause-meaning
 returns-in-Test-clause-meaning c = let h = c.requires.left in rw (c.in-Test.is, passes_answer) refl
 
 pub returns-in-Update-clause-meaning : goal.returns-in-Update-clause-meaning
-returns-in-Update-clause-meaning c = let h = c.requires.left in rw (c.in-Update.is, passes_answer) refl
+returns-in-Update-clause-meaning c = rw c.in-Update.is c.leave_update.ensures.meaning
 
 pub returns-in-Returning-clause-meaning : goal.returns-in-Returning-clause-meaning
 returns-in-Returning-clause-meaning c = let h = c.requires.left in rw (c.in-Returning.is, passes_answer) refl
