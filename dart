@@ -70,7 +70,7 @@ prove_libraries() {
 # Proves and builds the program by a run of it, whose answer is known.
 build() {
     command -v rt >/dev/null || fail "the toolchain's command rt isn't on the path"
-    say 'proving and building the program; the first time takes an hour or more'
+    say 'proving and building the program; the first time takes two hours or more'
     say "unproved, a program runs after a minute or two: cd $root/crates/dart && rt try --data a.dart=FILE -- run a.dart"
     before=$("$root/.ci/sources")
     : >"$log"
