@@ -1,0 +1,7 @@
+last(list) {
+  return list[list.length];
+}
+
+main() {
+  print(last([1, 2]));
+}

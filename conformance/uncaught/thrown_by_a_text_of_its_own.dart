@@ -1,0 +1,10 @@
+class Angry {
+  toString() {
+    throw new UnsupportedError('no text');
+  }
+}
+
+main() {
+  print('before');
+  print('${new Angry()}');
+}

@@ -1,0 +1,8 @@
+class Settings {
+  static final limit = int.parse('many');
+}
+
+main() {
+  print('reading');
+  print(Settings.limit);
+}
