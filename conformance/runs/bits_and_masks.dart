@@ -7,10 +7,10 @@ bitsOf(n) {
 hexadecimal(n) {
   if (n < 0) return '-' + hexadecimal(-n);
   var text = '';
-  do_: while (true) {
+  digits: while (true) {
     text = '0123456789abcdef'[n & 15] + text;
     n >>= 4;
-    if (n == 0) break do_;
+    if (n == 0) break digits;
   }
   return text;
 }
