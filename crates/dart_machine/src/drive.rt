@@ -13,10 +13,9 @@ use core_program::form::Core;
 use dart_ir::ending::Line;
 use dart_ir::value::Value;
 use dart_store::store::Store;
-use machine_flow::parameters::bind;
 use machine_form::forms::enter;
 use machine_frame::around::{Around, Fault};
-use machine_frame::run::{Body, Control, Exit, Frame, Run, Source};
+use machine_frame::run::{Control, Exit, Frame, NO_BODY, Run};
 use std::alloc::Global;
 
 /// Goes on to the end of a form.
@@ -38,9 +37,6 @@ pub fn drive<'a>(run: &mut Run<'a>, a: Around<'a>, start: Control<'a>) -> Result
         match control {
             Control::Enter(form) => {
                 control = enter(run, a, form)?;
-            }
-            Control::Bind(function, parameter, rest, index, passed) => {
-                control = bind(run, a, function, parameter, rest, index, passed)?;
             }
             Control::Leave(exit) => match pop_frame(run) {
                 None => return Ok(exit),
@@ -76,14 +72,8 @@ pub fn new_run<'a>(alloc: Global, store: Store, steps: u64, depth: u32) -> Run<'
         base: 0,
         operands: Vec::new(alloc),
         types: Vec::new(alloc),
-        body: Body {
-            source: Source::Function(0),
-            owner: 0,
-            this: Value::Null,
-            closure: Value::Null,
-            has_types: false,
-            caught: None,
-        },
+        body: NO_BODY,
+        callers: Vec::new(alloc),
         answer: Value::Null,
         depth,
         left: steps,

@@ -11,7 +11,6 @@ ghost use Rattle.machine_frame.specs.Frames.{done, joins, forms_of, does_row, en
 ghost use Rattle.dart_machine.specs.Leaving.{resuming};
 
 use core_program::form::Core;
-use dart_base::name::Name;
 use dart_base::place::Place;
 use dart_ir::value::Value;
 use machine_call::callables::apply;
@@ -24,7 +23,7 @@ use machine_form::rows::next;
 use machine_form::switches::{choose_case, leave_case};
 use machine_frame::around::{Around, Fault};
 use machine_frame::moves::{answer, bind_let, choose, go_on};
-use machine_frame::run::{Body, Control, Exit, Frame, Run, Task};
+use machine_frame::run::{Control, Exit, Frame, Run};
 use machine_frame::stacks::push_operand;
 use machine_lookup::row::cut;
 use machine_loop::loops::{begin_turn, decided, update};
@@ -48,10 +47,46 @@ pub fn leave<'a>(
     }
 }
 
-/// A frame that gets its answer.
-#[tactic(auto, using(machine_frame::proofs::Labels::label_laws))]
+/// A frame that gets its answer. The frames that come seldom have a function of their own, so that their parts take no room here.
 #[inline(always)]
 fn answered<'a>(run: &mut Run<'a>, a: Around<'a>, frame: Frame<'a>) -> Result<Control<'a>, Fault>
+    requires valid { IsValid a.program.now.classes }
+    ensures meaning { IfOk result (λ c. going a.entry run.new c ≡ resuming a.entry run.old frame.entry (ends (answer run.old.answer) (seen run.old))) }
+    ensures less { IfOk result (λ c. work run.new c < frame_weight frame.entry + room run.old + 5) }
+{
+    let value = run.answer;
+    match frame {
+        Frame::Rest(forms) => go_on(run, a, forms, value),
+        Frame::Choice(first, second) => choose(run, a, value, first, second),
+        Frame::Operand(at, is_function, one) => finish_unary(run, a, at, is_function, one, value),
+        Frame::First(at, one, second) => second_operand(run, a, at, one, value, second),
+        Frame::Second(at, one, first) => finish_binary(run, a, at, one, first, value),
+        Frame::Row(one, rest, count) => next_operand(run, a, one, rest, count),
+        Frame::Test(turn) => decided(run, a, turn, value),
+        Frame::Body(turn) => update(run, a, turn),
+        Frame::Update(turn) => begin_turn(run, a, turn),
+        Frame::Returning => Ok(Control::Leave(Exit::Returns)),
+        Frame::Caller(at, is_block, count, base, depth) => Ok(leave_call(
+            run,
+            a,
+            at,
+            is_block,
+            count,
+            base,
+            depth,
+            Exit::Answered,
+        )),
+        _ => answered_by_any(run, a, frame),
+    }
+}
+
+/// Any frame that gets its answer.
+#[tactic(auto, using(machine_frame::proofs::Labels::label_laws))]
+fn answered_by_any<'a>(
+    run: &mut Run<'a>,
+    a: Around<'a>,
+    frame: Frame<'a>,
+) -> Result<Control<'a>, Fault>
     requires valid { IsValid a.program.now.classes }
     ensures meaning { IfOk result (λ c. going a.entry run.new c ≡ resuming a.entry run.old frame.entry (ends (answer run.old.answer) (seen run.old))) }
     ensures less { IfOk result (λ c. work run.new c < frame_weight frame.entry + room run.old + 5) }
@@ -64,9 +99,7 @@ fn answered<'a>(run: &mut Run<'a>, a: Around<'a>, frame: Frame<'a>) -> Result<Co
         Frame::Operand(at, is_function, one) => finish_unary(run, a, at, is_function, one, value),
         Frame::First(at, one, second) => second_operand(run, a, at, one, value, second),
         Frame::Second(at, one, first) => finish_binary(run, a, at, one, first, value),
-        Frame::Row(at, task, names, rest, count) => next_operand(
-            run, a, at, task, names, rest, count,
-        ),
+        Frame::Row(one, rest, count) => next_operand(run, a, one, rest, count),
         Frame::Test(turn) => decided(run, a, turn, value),
         Frame::Body(turn) => update(run, a, turn),
         Frame::Update(turn) => begin_turn(run, a, turn),
@@ -84,7 +117,7 @@ fn answered<'a>(run: &mut Run<'a>, a: Around<'a>, frame: Frame<'a>) -> Result<Co
             Exit::Answered,
         ),
         Frame::Trying(attempt) => finish_try(run, a, &attempt.last, Exit::Answered, value),
-        Frame::Refused(attempt, rest, thrown, place) => leave_refused(
+        Frame::Refused(place, attempt, rest, thrown) => leave_refused(
             run,
             a,
             attempt,
@@ -97,7 +130,7 @@ fn answered<'a>(run: &mut Run<'a>, a: Around<'a>, frame: Frame<'a>) -> Result<Co
         Frame::Ending(exit, held) => Ok(end_with(run, a, exit, held)),
         Frame::Applying(at, passed) => apply(run, a, at, value, passed),
         Frame::Answering(held) => Ok(answer(run, a, held)),
-        Frame::Caller(at, is_block, count, base, depth, body) => Ok(leave_call(
+        Frame::Caller(at, is_block, count, base, depth) => Ok(leave_call(
             run,
             a,
             at,
@@ -105,17 +138,9 @@ fn answered<'a>(run: &mut Run<'a>, a: Around<'a>, frame: Frame<'a>) -> Result<Co
             count,
             base,
             depth,
-            body,
             Exit::Answered,
         )),
-        Frame::Restoring(base, depth, body) => Ok(leave_initialiser(
-            run,
-            a,
-            base,
-            depth,
-            body,
-            Exit::Answered,
-        )),
+        Frame::Restoring(base, depth) => Ok(leave_initialiser(run, a, base, depth, Exit::Answered)),
         Frame::Settling(at, d) => Ok(settle(run, a, at, d, Exit::Answered)),
     }
 }
@@ -140,7 +165,7 @@ fn passed_by<'a>(
         Frame::Operand(_, _, _) => Ok(Control::Leave(exit)),
         Frame::First(_, _, _) => Ok(Control::Leave(exit)),
         Frame::Second(_, _, _) => Ok(Control::Leave(exit)),
-        Frame::Row(_, _, _, _, count) => Ok(leave_operands(run, a, count, exit)),
+        Frame::Row(_, _, count) => Ok(leave_operands(run, a, count, exit)),
         Frame::Test(_) => Ok(Control::Leave(exit)),
         Frame::Body(turn) => leave_body(run, a, turn, exit),
         Frame::Update(turn) => leave_update(run, a, turn, exit),
@@ -151,19 +176,17 @@ fn passed_by<'a>(
         Frame::Switch(_) => Ok(Control::Leave(exit)),
         Frame::Case(one, is_empty, behind) => leave_case(run, a, one, is_empty, behind, exit),
         Frame::Trying(attempt) => leave_try(run, a, attempt, exit),
-        Frame::Refused(attempt, rest, thrown, place) => leave_refused(
+        Frame::Refused(place, attempt, rest, thrown) => leave_refused(
             run, a, attempt, rest, thrown, place, exit,
         ),
         Frame::Handling(last, around) => leave_handler(run, a, last, around, exit),
         Frame::Ending(_, _) => Ok(Control::Leave(exit)),
         Frame::Applying(_, passed) => Ok(leave_operands(run, a, passed.count, exit)),
         Frame::Answering(_) => Ok(Control::Leave(exit)),
-        Frame::Caller(at, is_block, count, base, depth, body) => Ok(leave_call(
-            run, a, at, is_block, count, base, depth, body, exit,
+        Frame::Caller(at, is_block, count, base, depth) => Ok(leave_call(
+            run, a, at, is_block, count, base, depth, exit,
         )),
-        Frame::Restoring(base, depth, body) => Ok(leave_initialiser(
-            run, a, base, depth, body, exit,
-        )),
+        Frame::Restoring(base, depth) => Ok(leave_initialiser(run, a, base, depth, exit)),
         Frame::Settling(at, d) => Ok(settle(run, a, at, d, exit)),
     }
 }
@@ -173,14 +196,12 @@ fn passed_by<'a>(
 fn next_operand<'a>(
     run: &mut Run<'a>,
     a: Around<'a>,
-    at: Place,
-    task: Task<'a>,
-    names: &'a [Name],
+    one: &'a Core,
     rest: &'a [Core],
     count: u32,
 ) -> Result<Control<'a>, Fault>
     ensures meaning { IfOk result (λ c. going a.entry run.new c ≡ does_row a.entry run.old count
-        (λ w. on_answers (done w at task.entry (v.names names.now)) (evals (joins task.entry) (forms_of rest.now) w) (last_of count run.old.operands.items ++ run.old.answer ∷ []))) }
+        (λ w. on_answers (done w (v.core one.now)) (evals (joins (v.core one.now)) (forms_of rest.now) w) (last_of count run.old.operands.items ++ run.old.answer ∷ []))) }
     ensures less { IfOk result (λ c. work run.new c < room run.old + 10) }
 {
     let Some(more) = count.checked_add(1) else {
@@ -188,7 +209,7 @@ fn next_operand<'a>(
     };
     let value = run.answer;
     push_operand(run, value)?;
-    let control = next(run, a, at, task, names, rest, more)?;
+    let control = next(run, a, one, rest, more)?;
     Ok(control)
 }
 
@@ -223,14 +244,13 @@ fn leave_call<'a>(
     count: u32,
     base: u32,
     depth: u32,
-    body: Body,
     exit: Exit,
 ) -> Control<'a>
-    ensures meaning { going a.entry run.new result ≡ resuming a.entry run.old (Frame.Caller at is_block count base depth body) (ends (completed exit run.old.answer) (seen run.old)) }
+    ensures meaning { going a.entry run.new result ≡ resuming a.entry run.old (Frame.Caller at is_block count base depth) (ends (completed exit run.old.answer) (seen run.old)) }
     ensures less { work run.new result ≤ work run.old (Leave exit) }
 {
     let left = after_call(run, at, is_block, exit);
-    go_back(run, base, depth, body);
+    go_back(run, base, depth);
     cut(&mut run.operands, count);
     Control::Leave(left)
 }
@@ -242,13 +262,12 @@ fn leave_initialiser<'a>(
     a: Around<'a>,
     base: u32,
     depth: u32,
-    body: Body,
     exit: Exit,
 ) -> Control<'a>
-    ensures meaning { going a.entry run.new result ≡ resuming a.entry run.old (Frame.Restoring base depth body) (ends (completed exit run.old.answer) (seen run.old)) }
+    ensures meaning { going a.entry run.new result ≡ resuming a.entry run.old (Frame.Restoring base depth) (ends (completed exit run.old.answer) (seen run.old)) }
     ensures less { work run.new result ≤ work run.old (Leave exit) }
 {
     let left = after_init(run, exit);
-    go_back(run, base, depth, body);
+    go_back(run, base, depth);
     Control::Leave(left)
 }

@@ -34,7 +34,7 @@ some_parameters (q ∷ qs) h = refl
 pub nothing_entered : (body : Part ℕ) (qs : List Parameter) → body ≡ c.missing → length qs ≡ 0 → (not (is_given body) && is_nil (map p.parameter qs)) ≡ true
 nothing_entered body qs e h = ap (λ b. not (is_given b) && is_nil (map p.parameter qs)) e ∙ no_parameters qs h
 
-none_there : (qs : List Parameter) → length qs ≡ 0 → [] ≡ qs
+pub none_there : (qs : List Parameter) → length qs ≡ 0 → [] ≡ qs
 none_there [] e = refl
 none_there (q ∷ qs) e = absurd (omega (arith, e))
 

@@ -6,3 +6,4 @@ pub mod Objects
 pub mod Operand
 pub mod Pushed
 pub mod Told
+mod Bound

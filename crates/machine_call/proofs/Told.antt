@@ -27,11 +27,12 @@ use Rattle.machine_call.specs.Missing.{units_left}
 pub cut_beside : (a : Around) (r r' : Run) (ops : Vec Value) (count : ℕ) → IsBeside r r' → ops.items ≡ but_last count r'.operands.items → (go : World → Meaning)
     → does a (record r' { operands = ops }) go ≡ ending_row a r count (go (world_in a r.depth) (seen r'))
 cut_beside a r r' ops count b cut go =
-    ap (λ (d : ℕ). mute (resume a (record { depth = d; under = take r'.base r'.slots.items; operands = ops.items; types = types_under r'.body.has_types r'.types.items }) r'.frames.items (go (world_in a d) (seen r')))) b.5
-    ∙ ap (λ (vs : List Value). mute (resume a (record { depth = r.depth; under = vs; operands = ops.items; types = types_under r'.body.has_types r'.types.items }) r'.frames.items (go (world_in a r.depth) (seen r')))) b.1
-    ∙ ap (λ (vs : List Value). mute (resume a (record { depth = r.depth; under = take r.base r.slots.items; operands = vs; types = types_under r'.body.has_types r'.types.items }) r'.frames.items (go (world_in a r.depth) (seen r')))) (cut ∙ ap (but_last count) b.3)
-    ∙ ap (λ (x : Body). mute (resume a (record { depth = r.depth; under = take r.base r.slots.items; operands = but_last count r.operands.items; types = types_under x.has_types r'.types.items }) r'.frames.items (go (world_in a r.depth) (seen r')))) b.4
-    ∙ ap (λ (ts : List (Vec TypeRef)). mute (resume a (record { depth = r.depth; under = take r.base r.slots.items; operands = but_last count r.operands.items; types = types_under r.body.has_types ts }) r'.frames.items (go (world_in a r.depth) (seen r')))) b.8
+    ap (λ (d : ℕ). mute (resume a (record { depth = d; under = take r'.base r'.slots.items; operands = ops.items; types = types_under r'.body.has_types r'.types.items; bodies = r'.callers.items }) r'.frames.items (go (world_in a d) (seen r')))) b.5
+    ∙ ap (λ (vs : List Value). mute (resume a (record { depth = r.depth; under = vs; operands = ops.items; types = types_under r'.body.has_types r'.types.items; bodies = r'.callers.items }) r'.frames.items (go (world_in a r.depth) (seen r')))) b.1
+    ∙ ap (λ (vs : List Value). mute (resume a (record { depth = r.depth; under = take r.base r.slots.items; operands = vs; types = types_under r'.body.has_types r'.types.items; bodies = r'.callers.items }) r'.frames.items (go (world_in a r.depth) (seen r')))) (cut ∙ ap (but_last count) b.3)
+    ∙ ap (λ (x : Body). mute (resume a (record { depth = r.depth; under = take r.base r.slots.items; operands = but_last count r.operands.items; types = types_under x.has_types r'.types.items; bodies = r'.callers.items }) r'.frames.items (go (world_in a r.depth) (seen r')))) b.4
+    ∙ ap (λ (ts : List (Vec TypeRef)). mute (resume a (record { depth = r.depth; under = take r.base r.slots.items; operands = but_last count r.operands.items; types = types_under r.body.has_types ts; bodies = r'.callers.items }) r'.frames.items (go (world_in a r.depth) (seen r')))) b.8
+    ∙ ap (λ (bs : List Body). mute (resume a (record (below_of r) { operands = but_last count r.operands.items; bodies = bs }) r'.frames.items (go (world_in a r.depth) (seen r')))) b.9
     ∙ ap (λ (fs : List Frame). mute (resume a (record (below_of r) { operands = but_last count r.operands.items }) fs (go (world_in a r.depth) (seen r')))) b.0
 
 module _ (a : Around) (r r' : Run) (at : Place) (class : ℕ) (role : Role) (name : ℕ) (this : Value) (g : Given) (count : ℕ) (made : Option Value) (ops : Vec Value)

@@ -15,6 +15,7 @@ ghost use Rattle.machine_call.specs.Bodies.{answers_null};
 ghost use Rattle.machine_frame.specs.Outside.{world_in};
 ghost use Rattle.machine_frame.specs.Frames.{seen, going, ending_row, does, does_row, room, work, given_of, callee_of, callee_with};
 
+use crate::parameters::bind;
 use core_program::form::Part;
 use core_program::program::{CoreProgram, Function};
 use dart_base::place::Place;
@@ -23,7 +24,7 @@ use dart_ir::types::Types;
 use dart_ir::value::Value;
 use machine_frame::around::{Around, Fault};
 use machine_frame::run::{Body, Called, Control, Exit, Frame, Limit, Passed, Run, Source};
-use machine_frame::stacks::{push_frame, push_types};
+use machine_frame::stacks::{push_body, push_frame, push_types};
 use machine_lookup::arguments::fits;
 use machine_lookup::program::{
     function_at, function_name, is_block_part, member_function, member_owner,
@@ -169,8 +170,9 @@ fn enter_body<'a>(
     let is_block = is_block_part(&function.body);
     push_frame(
         run,
-        Frame::Caller(at, is_block, passed.count, run.base, run.depth, run.body),
+        Frame::Caller(at, is_block, passed.count, run.base, run.depth),
     )?;
+    push_body(run)?;
     let has_types = push_types(run, types)?;
     run.base = base;
     run.body = Body {
@@ -182,26 +184,27 @@ fn enter_body<'a>(
         caught: None,
     };
     run.depth -= 1;
-    Ok(begin_body(run, a, function, passed))
+    let control = begin_body(run, a, function, passed)?;
+    Ok(control)
 }
 
-/// The first parameter of a function, or its form where it has none.
+/// Binds the parameters of a function, or enters its form where it has none.
 #[tactic(auto, using(core_program::proofs::Views::views))]
 #[inline(always)]
 fn begin_body<'a>(
-    run: &Run<'a>,
+    run: &mut Run<'a>,
     a: Around<'a>,
     function: &'a Function,
     passed: Passed<'a>,
-) -> Control<'a>
+) -> Result<Control<'a>, Fault>
     requires { answers_null (Some (p.function function.now)) ≡ false }
-    ensures meaning { going a.entry run.now result ≡ does a.entry run.now (λ w. binding w (given_of passed.entry run.now.operands.items) (map p.parameter function.now.parameters.items) 0 (part (v.part function.now.body) w Null)) }
-    ensures less { work run.now result < room run.now + 4 }
+    ensures meaning { IfOk result (λ c. going a.entry run.new c ≡ does a.entry run.old (λ w. binding w (given_of passed.entry run.old.operands.items) (map p.parameter function.now.parameters.items) 0 (part (v.part function.now.body) w Null))) }
+    ensures less { IfOk result (λ c. work run.new c < room run.old + 4) }
 {
     match function.parameters.as_slice().split_first() {
-        Some((first, rest)) => Control::Bind(function, first, rest, 0, passed),
+        Some((first, rest)) => bind(run, a, function, first, rest, 0, passed),
         None => match &function.body {
-            Part::Given(core) => Control::Enter(core),
+            Part::Given(core) => Ok(Control::Enter(core)),
             Part::Missing => unreachable!(),
         },
     }

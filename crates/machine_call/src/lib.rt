@@ -5,4 +5,5 @@ pub mod callables;
 pub mod calls;
 pub mod creation;
 pub mod missing;
+mod parameters;
 pub mod sends;

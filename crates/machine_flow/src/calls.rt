@@ -6,27 +6,28 @@ ghost use Rattle.evaluation.specs.Invocation.{leaving, moved};
 ghost use Rattle.evaluation.specs.Variables.{settled};
 ghost use Rattle.evaluation.specs.Values.{in_prelude};
 ghost use Rattle.machine_frame.specs.declared.run.Control.TheVariants.{Leave};
-ghost use Rattle.machine_frame.specs.Frames.{going, does, work, weight, completed, moved_to, types_under};
+ghost use Rattle.machine_frame.specs.Frames.{going, does, work, weight, completed, moved_to, types_under, last_body, bodies_under};
 
 use dart_base::place::Place;
 use dart_ir::value::Value;
 use dart_store::store::Static;
 use machine_frame::around::Around;
-use machine_frame::run::{Body, Control, Exit, Run};
-use machine_frame::stacks::drop_types;
+use machine_frame::run::{Control, Exit, Run};
+use machine_frame::stacks::{drop_types, pop_body};
 
 /// The caller's body is at work again.
 #[inline(always)]
-pub fn go_back(run: &mut Run, base: u32, depth: u32, body: Body)
+pub fn go_back(run: &mut Run, base: u32, depth: u32)
     ensures slots { run.new.slots.items ≡ take run.old.base run.old.slots.items }
     ensures types { run.new.types.items ≡ types_under run.old.body.has_types run.old.types.items }
-    ensures stays { run.new ≡ record run.old { slots = run.new.slots; types = run.new.types; base = base; depth = depth; body = body } }
+    ensures callers { run.new.callers.items ≡ bodies_under run.old.callers.items }
+    ensures stays { run.new ≡ record run.old { slots = run.new.slots; types = run.new.types; callers = run.new.callers; base = base; depth = depth; body = last_body run.old.callers.items } }
 {
     drop_types(run);
     run.slots.truncate(run.base as usize);
     run.base = base;
     run.depth = depth;
-    run.body = body;
+    run.body = pop_body(run);
 }
 
 /// How a call is left, where its body is left so.

@@ -184,7 +184,7 @@ fn handle<'a>(
             Ok(control)
         }
         Test::Malformed(form) => {
-            let control = wait(run, a, Frame::Refused(attempt, rest, value, place), form)?;
+            let control = wait(run, a, Frame::Refused(place, attempt, rest, value), form)?;
             Ok(control)
         }
     }

@@ -1,7 +1,6 @@
-// Control flow: how parameters are bound, and how calls, loops, labels and handlers are left.
+// Control flow: how calls, loops, labels and handlers are left.
 #![tactic(auto, using(machine_frame::proofs::Resume::resume_push, machine_frame::proofs::Steps::load_push, machine_frame::proofs::Rows::row_laws))]
 
 pub mod calls;
 pub mod handlers;
 pub mod jumps;
-pub mod parameters;

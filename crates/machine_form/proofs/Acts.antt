@@ -1,7 +1,6 @@
 -- Forms whose step is taken.
 use Rattle.std.proofs.Common.{◌≡◌, ℕ, true, false, List, [], map, sym, ap, ◌∙◌}
 use Rattle.std.specs.Global.{Vec, Box}
-use Rattle.dart_base.specs.declared.name.Name.{Name}
 use Rattle.dart_base.specs.declared.place.Place.{Place}
 use Rattle.dart_ir.specs.declared.number.ClassId.{ClassId}
 use Rattle.dart_ir.specs.declared.number.DeclId.{DeclId}
@@ -32,7 +31,6 @@ use Rattle.evaluation.specs.Variables.{declare}
 use Rattle.evaluation.specs.Evaluation.{eval, evals, act, part, leaf, unary, before_operand, binary, clauses}
 use Rattle.machine_frame.specs.declared.around.Around.{Around}
 use Rattle.machine_frame.specs.declared.run.Run.{Run}
-use Rattle.machine_frame.specs.declared.run.Task.TheVariants as task
 use Rattle.machine_frame.specs.Frames.{does, done, joins, forms_of, branches_of}
 
 module _ (a : Around) (r : Run) (at : Place) (form : Form) where
@@ -56,13 +54,14 @@ module _ (a : Around) (r : Run) (at : Place) (form : Form) where
       ∙ ap (λ (o : Core). does a r (act (c.binary (v.binary one) (v.core x.value) (v.core o)) at)) h
       ∙ acts (c.binary (v.binary one) (v.core x.value) (v.core y.value)) (ap v.form is ∙ view_binary one x y)
 
-  pub acts_row : (job : Job) (x : Arguments) (forms : List Core) (names : List Name) → form ≡ k.Row job x → forms ≡ (out-Arguments x).forms.items → names ≡ (out-Arguments x).names.items
-      → does a r (λ w. on_answers (done w at (task.Row job) (v.names names)) (evals (joins (task.Row job)) (forms_of forms) w) []) ≡ does a r (act (v.form form) at)
-  acts_row job x forms names is e h =
-      ap (λ (l : List Core). does a r (act (c.row (v.job job) (forms_of l) (v.names names)) at)) e
-      ∙ ap (λ (l : List Name). does a r (act (c.row (v.job job) (forms_of (out-Arguments x).forms.items) (v.names l)) at)) h
-      ∙ acts (c.row (v.job job) (forms_of (out-Arguments x).forms.items) (v.names (out-Arguments x).names.items))
-      (ap v.form is ∙ view_row job x ∙ ap (λ (p : v.Row). c.row (v.job job) p.0 p.1) (arguments_out x))
+  pub acts_row : (core : Core) → v.core core ≡ c.at at (v.form form) → (job : Job) (x : Arguments) (forms : List Core) → form ≡ k.Row job x → forms ≡ (out-Arguments x).forms.items
+      → does a r (λ w. on_answers (done w (v.core core)) (evals (joins (v.core core)) (forms_of forms) w) []) ≡ does a r (act (v.form form) at)
+  acts_row core same job x forms is e =
+      let names = v.names (out-Arguments x).names.items in
+      let row = ap v.form is ∙ view_row job x ∙ ap (λ (p : v.Row). c.row (v.job job) p.0 p.1) (arguments_out x) in
+      ap (λ (y : c.Core ℕ). does a r (λ w. on_answers (done w y) (evals (joins y) (forms_of forms) w) [])) (same ∙ ap (c.at at) row)
+      ∙ ap (λ (l : List Core). does a r (act (c.row (v.job job) (forms_of l) names) at)) e
+      ∙ acts (c.row (v.job job) (forms_of (out-Arguments x).forms.items) names) row
 
   pub acts_let : (i : ℕ) (x y : Box Core) (value body : Core) → form ≡ k.Let i x y → value ≡ x.value → body ≡ y.value
       → does a r (λ w st. on_answer (λ _. eval (v.core body) w) (on_answer (declare w.setting i) (eval (v.core value) w st))) ≡ does a r (act (v.form form) at)
@@ -78,22 +77,23 @@ module _ (a : Around) (r : Run) (at : Place) (form : Form) where
   acts_if x p q condition is e =
       ap (λ (o : Core). does a r (act (c.choice (v.core o) (v.part p) (v.part q)) at)) e ∙ acts (c.choice (v.core x.value) (v.part p) (v.part q)) (ap v.form is ∙ view_if x p q)
 
-  pub acts_new : (g : ClassId) (f : DeclId) (ts : Vec TypeRef) (x : Arguments) (types : List TypeRef) (forms : List Core) (names : List Name) → form ≡ k.New g f ts x
-      → types ≡ ts.items → forms ≡ (out-Arguments x).forms.items → names ≡ (out-Arguments x).names.items
-      → does a r (act (c.new g.0 f.0 (map ty types) (forms_of forms) (v.names names)) at) ≡ does a r (act (v.form form) at)
-  acts_new g f ts x types forms names is t e h =
-      ap (λ (l : List TypeRef). does a r (act (c.new g.0 f.0 (map ty l) (forms_of forms) (v.names names)) at)) t
-      ∙ ap (λ (l : List Core). does a r (act (c.new g.0 f.0 (map ty ts.items) (forms_of l) (v.names names)) at)) e
-      ∙ ap (λ (l : List Name). does a r (act (c.new g.0 f.0 (map ty ts.items) (forms_of (out-Arguments x).forms.items) (v.names l)) at)) h
-      ∙ acts (c.new g.0 f.0 (map ty ts.items) (forms_of (out-Arguments x).forms.items) (v.names (out-Arguments x).names.items))
-      (ap v.form is ∙ view_new g f ts x ∙ ap (λ (p : v.Row). c.new g.0 f.0 (map ty ts.items) p.0 p.1) (arguments_out x))
+  pub acts_new : (core : Core) → v.core core ≡ c.at at (v.form form) → (g : ClassId) (f : DeclId) (ts : Vec TypeRef) (x : Arguments) (forms : List Core) → form ≡ k.New g f ts x
+      → forms ≡ (out-Arguments x).forms.items
+      → does a r (λ w. on_answers (done w (v.core core)) (evals (joins (v.core core)) (forms_of forms) w) []) ≡ does a r (act (v.form form) at)
+  acts_new core same g f ts x forms is e =
+      let names = v.names (out-Arguments x).names.items in
+      let row = ap v.form is ∙ view_new g f ts x ∙ ap (λ (p : v.Row). c.new g.0 f.0 (map ty ts.items) p.0 p.1) (arguments_out x) in
+      ap (λ (y : c.Core ℕ). does a r (λ w. on_answers (done w y) (evals (joins y) (forms_of forms) w) [])) (same ∙ ap (c.at at) row)
+      ∙ ap (λ (l : List Core). does a r (act (c.new g.0 f.0 (map ty ts.items) (forms_of l) names) at)) e
+      ∙ acts (c.new g.0 f.0 (map ty ts.items) (forms_of (out-Arguments x).forms.items) names) row
 
-  pub acts_list : (ts : Vec TypeRef) (x : Vec Core) (types : List TypeRef) (forms : List Core) → form ≡ k.List ts x → types ≡ ts.items → forms ≡ x.items
-      → does a r (act (c.list (map ty types) (forms_of forms)) at) ≡ does a r (act (v.form form) at)
-  acts_list ts x types forms is t e =
-      ap (λ (l : List TypeRef). does a r (act (c.list (map ty l) (forms_of forms)) at)) t
+  pub acts_list : (core : Core) → v.core core ≡ c.at at (v.form form) → (ts : Vec TypeRef) (x : Vec Core) (forms : List Core) → form ≡ k.List ts x → forms ≡ x.items
+      → does a r (λ w. on_answers (done w (v.core core)) (evals (joins (v.core core)) (forms_of forms) w) []) ≡ does a r (act (v.form form) at)
+  acts_list core same ts x forms is e =
+      let row = ap v.form is ∙ view_list ts x in
+      ap (λ (y : c.Core ℕ). does a r (λ w. on_answers (done w y) (evals (joins y) (forms_of forms) w) [])) (same ∙ ap (c.at at) row)
       ∙ ap (λ (l : List Core). does a r (act (c.list (map ty ts.items) (forms_of l)) at)) e
-      ∙ acts (c.list (map ty ts.items) (forms_of x.items)) (ap v.form is ∙ view_list ts x)
+      ∙ acts (c.list (map ty ts.items) (forms_of x.items)) row
 
   pub acts_type : (t : TypeRef) → form ≡ k.TypeLiteral t → does a r (λ w. type_object w.setting (ty t)) ≡ does a r (act (v.form form) at)
   acts_type t is = acts (c.type_literal (ty t)) (ap v.form is ∙ view_type_literal t)

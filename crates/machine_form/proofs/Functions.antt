@@ -14,7 +14,7 @@ use Rattle.machine_frame.specs.declared.around.Around.{Around}
 use Rattle.machine_frame.specs.declared.run.Run.{Run}
 use Rattle.machine_frame.specs.Outside.{setting_of, world_in}
 use Rattle.machine_frame.specs.Frames.{seen, ending, does, IsBeside, value_or_full}
-use Rattle.machine_loop.proofs.Beside.{beside_does}
+use Rattle.machine_frame.proofs.Beside.{beside_does}
 
 module _ (a : Around) (r : Run) (at : Place) where
   -- an operand by what is done with it

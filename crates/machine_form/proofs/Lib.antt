@@ -4,4 +4,5 @@ pub mod Functions
 pub mod Pieces
 pub mod Received
 pub mod Rowed
+pub mod Done
 pub mod Switched

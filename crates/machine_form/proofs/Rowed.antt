@@ -1,8 +1,6 @@
 -- Rows of operands.
 use Rattle.std.specs.Borrow.{Bor}
 use Rattle.std.proofs.Common.{◌≡◌, ℕ, ◌+◌, List, [], ◌∷◌, ◌++◌, sym, ap, ◌∙◌}
-use Rattle.dart_base.specs.declared.name.Name.{Name}
-use Rattle.dart_base.specs.declared.place.Place.{Place}
 use Rattle.dart_ir.specs.declared.value.Value.{Value}
 use Rattle.core_program.specs.declared.form.Core.{Core}
 use Rattle.core_program.specs.View as v
@@ -12,7 +10,6 @@ use Rattle.evaluation.specs.Sequence.{on_answer, on_answers}
 use Rattle.evaluation.specs.Parts.{form_of, constant_of}
 use Rattle.evaluation.specs.Evaluation.{eval, evals, piece}
 use Rattle.machine_frame.specs.declared.around.Around.{Around}
-use Rattle.machine_frame.specs.declared.run.Task.{Task}
 use Rattle.machine_frame.specs.declared.run.Frame.TheVariants as f
 use Rattle.machine_frame.specs.declared.run.Run.{Run}
 use Rattle.machine_frame.specs.Outside.{world_in}
@@ -20,36 +17,36 @@ use Rattle.machine_frame.specs.Frames.{seen, below_of, resume, mute, does, endin
 use Rattle.machine_frame.proofs.Rows.{last_push, but_push}
 use Rattle.machine_form.proofs.Entered.{does_pushed}
 
-module _ (a : Around) (r : Run) (at : Place) (task : Task) (names : Bor (List Name)) (count : ℕ) where
+module _ (a : Around) (r : Run) (one : Bor Core) (count : ℕ) where
   -- what a row of these forms comes to, behind those that are there
   abbrev pub row_of : List Core → World → Meaning
-  row_of forms w = on_answers (done w at task (v.names names.now)) (evals (joins task) (forms_of forms) w) (last_of count r.operands.items)
+  row_of forms w = on_answers (done w (v.core one.now)) (evals (joins (v.core one.now)) (forms_of forms) w) (last_of count r.operands.items)
 
-  pub row_ends : (forms : List Core) → forms ≡ [] → does_row a r count (λ w. done w at task (v.names names.now) (last_of count r.operands.items)) ≡ does_row a r count (row_of forms)
+  pub row_ends : (forms : List Core) → forms ≡ [] → does_row a r count (λ w. done w (v.core one.now) (last_of count r.operands.items)) ≡ does_row a r count (row_of forms)
   row_ends forms e = ap (λ (l : List Core). does_row a r count (row_of l)) (sym e)
 
   -- the next form is entered
   pub row_waits : (m : Run) (forms : List Core) (first : Core) (rest : Bor (List Core)) → forms ≡ first ∷ rest.now
-      → m.frames.items ≡ r.frames.items ++ f.Row at task names rest count ∷ [] → m ≡ record r { frames = m.frames }
-      → piece (joins task) (constant_of (form_of (v.core first))) (eval (v.core first) (world_in a r.depth)) (seen r) ≡ eval (v.core first) (world_in a r.depth) (seen r)
+      → m.frames.items ≡ r.frames.items ++ f.Row one rest count ∷ [] → m ≡ record r { frames = m.frames }
+      → piece (joins (v.core one.now)) (constant_of (form_of (v.core first))) (eval (v.core first) (world_in a r.depth)) (seen r) ≡ eval (v.core first) (world_in a r.depth) (seen r)
       → does a m (eval (v.core first)) ≡ does_row a r count (row_of forms)
   row_waits m forms first rest e pushed stays same =
       let w = world_in a r.depth in
-      does_pushed a r m (f.Row at task names rest count) (eval (v.core first)) pushed stays
-      ∙ ap (λ (o : Outcome). ending_row a r count (on_answer (λ x. on_answers (done w at task (v.names names.now)) (evals (joins task) (forms_of rest.now) w) (last_of count r.operands.items ++ x ∷ [])) o)) (sym same)
+      does_pushed a r m (f.Row one rest count) (eval (v.core first)) pushed stays
+      ∙ ap (λ (o : Outcome). ending_row a r count (on_answer (λ x. on_answers (done w (v.core one.now)) (evals (joins (v.core one.now)) (forms_of rest.now) w) (last_of count r.operands.items ++ x ∷ [])) o)) (sym same)
       ∙ ap (λ (l : List Core). does_row a r count (row_of l)) (sym e)
 
   -- the next one is answered at once
   pub row_goes : (m : Run) (forms : List Core) (first : Core) (rest : List Core) (value : Value) (left more : ℕ) → forms ≡ first ∷ rest → more ≡ count + 1
       → m.operands.items ≡ r.operands.items ++ value ∷ [] → m ≡ record r { left = left; operands = m.operands }
-      → piece (joins task) (constant_of (form_of (v.core first))) (eval (v.core first) (world_in a r.depth)) (seen r) ≡ ends (answer value) (record (seen r) { left = left })
-      → does_row a m more (λ w. on_answers (done w at task (v.names names.now)) (evals (joins task) (forms_of rest) w) (last_of more m.operands.items)) ≡ does_row a r count (row_of forms)
+      → piece (joins (v.core one.now)) (constant_of (form_of (v.core first))) (eval (v.core first) (world_in a r.depth)) (seen r) ≡ ends (answer value) (record (seen r) { left = left })
+      → does_row a m more (λ w. on_answers (done w (v.core one.now)) (evals (joins (v.core one.now)) (forms_of rest) w) (last_of more m.operands.items)) ≡ does_row a r count (row_of forms)
   row_goes m forms first rest value left more e next pushed stays same =
       let w = world_in a r.depth in
-      let go : List Value → Meaning = on_answers (done w at task (v.names names.now)) (evals (joins task) (forms_of rest) w) in
+      let go : List Value → Meaning = on_answers (done w (v.core one.now)) (evals (joins (v.core one.now)) (forms_of rest) w) in
       let st : State = record (seen r) { left = left } in
       ap (λ (q : Run). mute (resume a (record (below_of q) { operands = but_last more m.operands.items }) q.frames.items
-      (on_answers (done (world_in a q.depth) at task (v.names names.now)) (evals (joins task) (forms_of rest) (world_in a q.depth)) (last_of more m.operands.items) (seen q)))) stays
+      (on_answers (done (world_in a q.depth) (v.core one.now)) (evals (joins (v.core one.now)) (forms_of rest) (world_in a q.depth)) (last_of more m.operands.items) (seen q)))) stays
       ∙ ap (λ (n : ℕ). mute (resume a (record (below_of r) { operands = but_last n m.operands.items }) r.frames.items (go (last_of n m.operands.items) st))) next
       ∙ ap (λ (l : List Value). mute (resume a (record (below_of r) { operands = but_last (count + 1) l }) r.frames.items (go (last_of (count + 1) l) st))) pushed
       ∙ ap (λ (l : List Value). mute (resume a (record (below_of r) { operands = l }) r.frames.items (go (last_of (count + 1) (r.operands.items ++ value ∷ [])) st))) (but_push count r.operands.items value)

@@ -26,7 +26,7 @@ use dart_ir::value::Value;
 use machine_frame::around::{Around, Fault};
 use machine_frame::moves::{answer, bind_let, choose, go_on, wait};
 use machine_frame::objects::field_of;
-use machine_frame::run::{Control, Exit, Frame, Limit, Run, Switching, Task, Turn};
+use machine_frame::run::{Control, Exit, Frame, Limit, Run, Switching, Turn};
 use machine_frame::stacks::push_frame;
 use machine_frame::variables::read_variable;
 use machine_lookup::program::takes_step;
@@ -51,7 +51,7 @@ pub fn enter<'a>(run: &mut Run<'a>, a: Around<'a>, core: &'a Core) -> Result<Con
         return Ok(Control::Leave(Exit::Over(Limit::OutOfSteps)));
     }
     run.left -= 1;
-    let control = go_into(run, a, core.place, &core.form)?;
+    let control = go_into(run, a, core)?;
     Ok(control)
 }
 
@@ -157,7 +157,7 @@ fn enter_within<'a>(run: &mut Run<'a>, a: Around<'a>, core: &'a Core) -> Result<
 {
     if takes_step(&core.form) {
         run.left -= 1;
-        let control = go_into(run, a, core.place, &core.form)?;
+        let control = go_into(run, a, core)?;
         return Ok(control);
     }
     take_turn(run, a, bare_loop(core))
@@ -220,31 +220,45 @@ fn bare_loop<'a>(core: &'a Core) -> Turn<'a>
     }
 }
 
-/// Begins the work of a form whose step is taken.
+/// Begins the work of a form whose step is taken. The forms that come seldom have a function of their own, so that their parts take no
+/// room here.
 #[tactic(auto, using(core_program::proofs::Views::views))]
 #[inline(always)]
-fn go_into<'a>(
-    run: &mut Run<'a>,
-    a: Around<'a>,
-    at: Place,
-    form: &'a Form,
-) -> Result<Control<'a>, Fault>
-    requires { takes_step (v.form form.now) ≡ true }
-    ensures meaning { IfOk result (λ c. going a.entry run.new c ≡ does a.entry run.old (act (v.form form.now) at)) }
+fn go_into<'a>(run: &mut Run<'a>, a: Around<'a>, core: &'a Core) -> Result<Control<'a>, Fault>
+    requires { takes_step (v.form (out-Core core.now).form) ≡ true }
+    ensures meaning { IfOk result (λ c. going a.entry run.new c ≡ does a.entry run.old (act (v.form (out-Core core.now).form) (out-Core core.now).place)) }
     ensures less { IfOk result (λ c. work run.new c < room run.old + 10) }
 {
-    match form {
+    let at = core.place;
+    match &core.form {
         Form::Leaf(leaf) => enter_leaf(run, a, at, *leaf),
         Form::Unary(one, operand) => enter_unary(run, a, at, *one, operand),
         Form::Binary(one, first, second) => enter_binary(run, a, at, *one, first, second),
-        Form::Row(job, arguments) => begin_row(
-            run,
-            a,
-            at,
-            Task::Row(*job),
-            arguments.names.as_slice(),
-            arguments.forms.as_slice(),
-        ),
+        Form::Row(_, arguments) => begin_row(run, a, core, arguments.forms.as_slice()),
+        Form::Block(forms) => go_on(run, a, forms.as_slice(), Value::Null),
+        Form::If {
+            condition,
+            first,
+            second,
+        } => enter_if(run, a, condition, first, second),
+        Form::Return(value) => return_of(run, a, value),
+        _ => go_into_any(run, a, core),
+    }
+}
+
+/// Begins the work of any form whose step is taken.
+#[tactic(auto, using(core_program::proofs::Views::views))]
+fn go_into_any<'a>(run: &mut Run<'a>, a: Around<'a>, core: &'a Core) -> Result<Control<'a>, Fault>
+    requires { takes_step (v.form (out-Core core.now).form) ≡ true }
+    ensures meaning { IfOk result (λ c. going a.entry run.new c ≡ does a.entry run.old (act (v.form (out-Core core.now).form) (out-Core core.now).place)) }
+    ensures less { IfOk result (λ c. work run.new c < room run.old + 10) }
+{
+    let at = core.place;
+    match &core.form {
+        Form::Leaf(leaf) => enter_leaf(run, a, at, *leaf),
+        Form::Unary(one, operand) => enter_unary(run, a, at, *one, operand),
+        Form::Binary(one, first, second) => enter_binary(run, a, at, *one, first, second),
+        Form::Row(_, arguments) => begin_row(run, a, core, arguments.forms.as_slice()),
         Form::Let { var, value, body } => enter_let(run, a, *var, value, body),
         Form::Block(forms) => go_on(run, a, forms.as_slice(), Value::Null),
         Form::If {
@@ -253,26 +267,12 @@ fn go_into<'a>(
             second,
         } => enter_if(run, a, condition, first, second),
         Form::New {
-            class,
-            constructor,
-            types,
+            class: _,
+            constructor: _,
+            types: _,
             arguments,
-        } => begin_row(
-            run,
-            a,
-            at,
-            Task::New(*class, *constructor, types.as_slice()),
-            arguments.names.as_slice(),
-            arguments.forms.as_slice(),
-        ),
-        Form::List { types, items } => begin_row(
-            run,
-            a,
-            at,
-            Task::List(types.as_slice()),
-            &[],
-            items.as_slice(),
-        ),
+        } => begin_row(run, a, core, arguments.forms.as_slice()),
+        Form::List { types: _, items } => begin_row(run, a, core, items.as_slice()),
         Form::Return(value) => return_of(run, a, value),
         Form::Try(attempt) => enter_try(run, a, attempt),
         Form::TypeLiteral(of) => type_object(run, a, of),

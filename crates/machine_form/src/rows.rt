@@ -5,11 +5,11 @@ ghost use Rattle.core_program.specs.View as v;
 ghost use Rattle.machine_lookup.specs.Rows.{last_of, but_last};
 ghost use Rattle.evaluation.specs.State.{State, Meaning, Outcome, Completion, answer, ends};
 ghost use Rattle.evaluation.specs.Sequence.{on_answer, on_answers};
-ghost use Rattle.evaluation.specs.Parts.{form_of, constant_of, constant_leaf};
+ghost use Rattle.evaluation.specs.Parts.{form_of, is_join, constant_of, constant_leaf};
 ghost use Rattle.evaluation.specs.Evaluation.{eval, evals, piece, row};
 ghost use Rattle.evaluation.specs.Externals.{native};
 ghost use Rattle.machine_frame.specs.Outside.{setting_of, world_in};
-ghost use Rattle.machine_frame.specs.Frames.{seen, going, does, does_row, room, work, forms_of, done, joins, given_of};
+ghost use Rattle.machine_frame.specs.Frames.{seen, going, does, does_row, room, work, forms_of, done, joins, joins_of, given_of};
 
 use core_program::form::{Core, Form, Job, Leaf};
 use dart_base::name::Name;
@@ -20,7 +20,7 @@ use machine_call::calls::{null_of_call, static_call};
 use machine_call::creation::{construct, create};
 use machine_call::sends::{send, super_member};
 use machine_frame::around::{Around, Fault};
-use machine_frame::run::{Control, Frame, Passed, Run, Task};
+use machine_frame::run::{Control, Frame, Passed, Run};
 use machine_frame::stacks::{push_frame, push_operand};
 use machine_lookup::row::{first_form, first_value, last_of};
 use machine_loop::quick::quick;
@@ -33,15 +33,13 @@ use machine_value::texts::join;
 pub fn begin_row<'a>(
     run: &mut Run<'a>,
     a: Around<'a>,
-    at: Place,
-    task: Task<'a>,
-    names: &'a [Name],
+    one: &'a Core,
     forms: &'a [Core],
 ) -> Result<Control<'a>, Fault>
-    ensures meaning { IfOk result (λ c. going a.entry run.new c ≡ does a.entry run.old (λ w. on_answers (done w at task.entry (v.names names.now)) (evals (joins task.entry) (forms_of forms.now) w) [])) }
+    ensures meaning { IfOk result (λ c. going a.entry run.new c ≡ does a.entry run.old (λ w. on_answers (done w (v.core one.now)) (evals (joins (v.core one.now)) (forms_of forms.now) w) [])) }
     ensures less { IfOk result (λ c. work run.new c < room run.old + 10) }
 {
-    next(run, a, at, task, names, forms, 0)
+    next(run, a, one, forms, 0)
 }
 
 /// The next of a row, or what is done where all are there.
@@ -49,20 +47,18 @@ pub fn begin_row<'a>(
 pub fn next<'a>(
     run: &mut Run<'a>,
     a: Around<'a>,
-    at: Place,
-    task: Task<'a>,
-    names: &'a [Name],
+    one: &'a Core,
     forms: &'a [Core],
     count: u32,
 ) -> Result<Control<'a>, Fault>
-    ensures meaning { IfOk result (λ c. going a.entry run.new c ≡ does_row a.entry run.old count (λ w. on_answers (done w at task.entry (v.names names.now)) (evals (joins task.entry) (forms_of forms.now) w) (last_of count run.old.operands.items))) }
+    ensures meaning { IfOk result (λ c. going a.entry run.new c ≡ does_row a.entry run.old count (λ w. on_answers (done w (v.core one.now)) (evals (joins (v.core one.now)) (forms_of forms.now) w) (last_of count run.old.operands.items))) }
     ensures less { IfOk result (λ c. work run.new c < room run.old + 10) }
 {
     match first_form(forms) {
-        None => finish(run, a, at, task, names, count),
-        Some((first, rest)) => match piece_value(run, a, task, first) {
+        None => finish(run, a, one, count),
+        Some((first, rest)) => match piece_value(run, a, one, first) {
             None => {
-                push_frame(run, Frame::Row(at, task, names, rest, count))?;
+                push_frame(run, Frame::Row(one, rest, count))?;
                 Ok(Control::Enter(first))
             }
             Some((value, left)) => {
@@ -71,7 +67,7 @@ pub fn next<'a>(
                 };
                 run.left = left;
                 push_operand(run, value)?;
-                let control = next(run, a, at, task, names, rest, more)?;
+                let control = next(run, a, one, rest, more)?;
                 Ok(control)
             }
         },
@@ -81,13 +77,13 @@ pub fn next<'a>(
 /// An operand that is answered at once, with the steps left after it: a constant piece of a string takes none. What isn't is entered
 /// as any form.
 #[inline(always)]
-fn piece_value<'a>(run: &Run<'a>, a: Around<'a>, task: Task<'a>, one: &Core) -> Option<(Value, u64)>
+fn piece_value<'a>(run: &Run<'a>, a: Around<'a>, row: &Core, one: &Core) -> Option<(Value, u64)>
     ensures value { MatchOption result
-        (piece (joins task.entry) (constant_of (form_of (v.core one.now))) (eval (v.core one.now) (world_in a.entry run.now.depth)) (seen run.now) ≡ eval (v.core one.now) (world_in a.entry run.now.depth) (seen run.now))
-        (λ p. piece (joins task.entry) (constant_of (form_of (v.core one.now))) (eval (v.core one.now) (world_in a.entry run.now.depth)) (seen run.now) ≡ ends (answer p.0) (record (seen run.now) { left = p.1 })) }
+        (piece (joins (v.core row.now)) (constant_of (form_of (v.core one.now))) (eval (v.core one.now) (world_in a.entry run.now.depth)) (seen run.now) ≡ eval (v.core one.now) (world_in a.entry run.now.depth) (seen run.now))
+        (λ p. piece (joins (v.core row.now)) (constant_of (form_of (v.core one.now))) (eval (v.core one.now) (world_in a.entry run.now.depth)) (seen run.now) ≡ ends (answer p.0) (record (seen run.now) { left = p.1 })) }
     ensures less { IfSome result (λ p. p.1 ≤ run.now.left) }
 {
-    if joins(task) {
+    if joins(row) {
         if let Some(value) = constant_of(one) {
             return Some((value, run.left));
         }
@@ -96,15 +92,73 @@ fn piece_value<'a>(run: &Run<'a>, a: Around<'a>, task: Task<'a>, one: &Core) -> 
     quick(run, a, one, run.left)
 }
 
-/// Whether the row is a string with parts.
-fn joins(task: Task) -> bool
-    ensures { result ≡ joins task.entry }
+/// Whether a form is a string with parts.
+#[tactic(auto, using(core_program::proofs::Views::views))]
+fn joins(one: &Core) -> bool
+    ensures { result ≡ joins (v.core one.now) }
 {
-    match task {
-        Task::Row(Job::Join) => true,
-        Task::Row(_) => false,
-        Task::New(_, _, _) => false,
-        Task::List(_) => false,
+    joins_form(&one.form)
+}
+
+#[tactic(auto, using(core_program::proofs::Views::views))]
+fn joins_form(form: &Form) -> bool
+    ensures { result ≡ joins_of (v.form form.now) }
+{
+    match form {
+        Form::Row(job, _) => is_join(*job),
+        Form::New {
+            class: _,
+            constructor: _,
+            types: _,
+            arguments: _,
+        } => false,
+        Form::List { types: _, items: _ } => false,
+        Form::Leaf(_) => false,
+        Form::TypeLiteral(_) => false,
+        Form::Unary(_, _) => false,
+        Form::Binary(_, _, _) => false,
+        Form::Let {
+            var: _,
+            value: _,
+            body: _,
+        } => false,
+        Form::Block(_) => false,
+        Form::If {
+            condition: _,
+            first: _,
+            second: _,
+        } => false,
+        Form::Is(_, _) => false,
+        Form::As(_, _) => false,
+        Form::Loop {
+            target: _,
+            copies: _,
+            condition: _,
+            update: _,
+            body: _,
+        } => false,
+        Form::Return(_) => false,
+        Form::Try(_) => false,
+        Form::Switch {
+            target: _,
+            value: _,
+            cases: _,
+        } => false,
+        Form::Labelled(_, _) => false,
+    }
+}
+
+fn is_join(job: Job) -> bool
+    ensures { result ≡ is_join (v.job job) }
+{
+    match job {
+        Job::Join => true,
+        Job::Send(_) => false,
+        Job::Super(_, _) => false,
+        Job::Call(_) => false,
+        Job::Apply => false,
+        Job::SuperNew(_) => false,
+        Job::Native(_) => false,
     }
 }
 
@@ -184,36 +238,85 @@ fn constant_leaf(leaf: Leaf) -> Option<Value>
     }
 }
 
-/// The end of a row.
+/// The end of a row; a form that is none answers null.
 #[inline(always)]
 fn finish<'a>(
     run: &mut Run<'a>,
     a: Around<'a>,
-    at: Place,
-    task: Task<'a>,
-    names: &'a [Name],
+    one: &'a Core,
     count: u32,
 ) -> Result<Control<'a>, Fault>
-    ensures meaning { IfOk result (λ c. going a.entry run.new c ≡ does_row a.entry run.old count (λ w. done w at task.entry (v.names names.now) (last_of count run.old.operands.items))) }
+    ensures meaning { IfOk result (λ c. going a.entry run.new c ≡ does_row a.entry run.old count (λ w. done w (v.core one.now) (last_of count run.old.operands.items))) }
     ensures less { IfOk result (λ c. work run.new c < room run.old + 10) }
 {
-    let passed = Passed {
+    match &one.form {
+        Form::Row(job, arguments) => finish_job(
+            run,
+            a,
+            one.place,
+            *job,
+            passed_by(arguments.names.as_slice(), count),
+        ),
+        Form::New {
+            class,
+            constructor,
+            types,
+            arguments,
+        } => create(
+            run,
+            a,
+            one.place,
+            class.0,
+            constructor.0,
+            types.as_slice(),
+            passed_by(arguments.names.as_slice(), count),
+        ),
+        Form::List { types, items: _ } => make_list(run, a, types.as_slice(), count),
+        Form::Leaf(_) => Ok(null_of_call(run, a, count)),
+        Form::TypeLiteral(_) => Ok(null_of_call(run, a, count)),
+        Form::Unary(_, _) => Ok(null_of_call(run, a, count)),
+        Form::Binary(_, _, _) => Ok(null_of_call(run, a, count)),
+        Form::Let {
+            var: _,
+            value: _,
+            body: _,
+        } => Ok(null_of_call(run, a, count)),
+        Form::Block(_) => Ok(null_of_call(run, a, count)),
+        Form::If {
+            condition: _,
+            first: _,
+            second: _,
+        } => Ok(null_of_call(run, a, count)),
+        Form::Is(_, _) => Ok(null_of_call(run, a, count)),
+        Form::As(_, _) => Ok(null_of_call(run, a, count)),
+        Form::Loop {
+            target: _,
+            copies: _,
+            condition: _,
+            update: _,
+            body: _,
+        } => Ok(null_of_call(run, a, count)),
+        Form::Return(_) => Ok(null_of_call(run, a, count)),
+        Form::Try(_) => Ok(null_of_call(run, a, count)),
+        Form::Switch {
+            target: _,
+            value: _,
+            cases: _,
+        } => Ok(null_of_call(run, a, count)),
+        Form::Labelled(_, _) => Ok(null_of_call(run, a, count)),
+    }
+}
+
+/// All operands of a row, the last of which go by these names.
+#[inline(always)]
+fn passed_by<'a>(names: &'a [Name], count: u32) -> Passed<'a>
+    ensures names { result.names.now ≡ names.now }
+    ensures rest { (result.skip ≡ false) × (result.count ≡ count) }
+{
+    Passed {
         names,
         skip: false,
         count,
-    };
-    match task {
-        Task::Row(job) => finish_job(run, a, at, job, passed),
-        Task::New(class, constructor, types) => create(
-            run,
-            a,
-            at,
-            class.0,
-            constructor.0,
-            types,
-            passed,
-        ),
-        Task::List(types) => make_list(run, a, types, count),
     }
 }
 

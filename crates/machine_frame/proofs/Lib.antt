@@ -11,3 +11,5 @@ pub mod Quick
 pub mod Natives
 pub mod Mute
 pub mod Types
+pub mod Bodies
+pub mod Beside

@@ -28,14 +28,12 @@ use Rattle.evaluation.proofs.Forms as forms
 use Rattle.evaluation.proofs.Kept.{Kept, Keeps, kept_then, kept_logic, kept_ends, kept_site, front, before}
 use Rattle.machine_frame.specs.declared.around.Around.{Around}
 use Rattle.machine_frame.specs.declared.run.Turn.{Turn}
-use Rattle.machine_frame.specs.declared.run.Task.{Task}
-use Rattle.machine_frame.specs.declared.run.Task.TheVariants as task
 use Rattle.machine_frame.specs.declared.run.Frame.{Frame}
 use Rattle.machine_frame.specs.declared.run.Frame.TheVariants as f
 use Rattle.machine_frame.specs.Outside.{checking_of, setting_of, world_in}
 use Rattle.machine_lookup.specs.Rows.{last_of}
 use Rattle.machine_frame.specs.Labels.{labels, labelled_all}
-use Rattle.machine_frame.specs.Frames.{Below, below, forms_of, loop_of, next_turn, tested as tested_by, updated, done, joins, completed, thrown_of, given_of, activation_of, branches_of, case_from, case_falls, resumed, resume_from, resume, mute}
+use Rattle.machine_frame.specs.Frames.{Below, below, forms_of, loop_of, next_turn, tested as tested_by, updated, done, done_of, joins, last_body, completed, thrown_of, given_of, activation_of, branches_of, case_from, case_falls, resumed, resume_from, resume, mute}
 
 mute_front : (e : Event) (o : Outcome) → mute (front e o) ≡ mute o
 mute_front e (ends c st) = refl
@@ -106,10 +104,14 @@ module _ (a : Around) (d : ℕ) where
       (part_kept (v.part t.condition.now) (Truth true)) (part_kept (v.part t.update.now) Null) (part_kept (v.part t.body.now) Null)
       (loop_of w t) (loop_of w t) (loop_kept t) u
 
-  done_kept : (at : Place) (x : Task) (names : List ℕ) (vs : List Value) → Kept (done (world_in a d) at x names vs)
-  done_kept at (task.Row job) names vs = forms.row_rel kept_logic S R R C C I I sites kept_calls kept_inits at (v.job job) names vs
-  done_kept at (task.New k x types) names vs = calls.new_rel kept_logic S R R C C I I sites kept_calls kept_inits at k.0 x.0 (map ty types.now) (record { values = vs; names = names })
-  done_kept at (task.List types) names vs = p.new_list_rel kept_logic S (map ty types.now) vs
+  form_done : (x : c.Form ℕ) (at : Place) (vs : List Value) → Kept (done_of x at (world_in a d) vs)
+  form_done (c.row job xs names) at vs = forms.row_rel kept_logic S R R C C I I sites kept_calls kept_inits at job names vs
+  form_done (c.new k x types xs names) at vs = calls.new_rel kept_logic S R R C C I I sites kept_calls kept_inits at k x types (record { values = vs; names = names })
+  form_done (c.list types xs) at vs = p.new_list_rel kept_logic S types vs
+  form_done x at vs = kept_ends (answer Null)
+
+  done_kept : (x : c.Core ℕ) (vs : List Value) → Kept (done (world_in a d) x vs)
+  done_kept (c.at place x) vs = form_done x place vs
 
   -- what an answer goes on with
   going_on : (go : Value → Meaning) → ((u : Value) → Kept (go u)) → Keeps (on_answer go)
@@ -141,8 +143,9 @@ module _ (a : Around) (d : ℕ) where
       going_on _ (λ x. l.answers kept_logic (λ y. binary (world_in a d) at (v.binary one) x y) (λ y. binary (world_in a d) at (v.binary one) x y) (binary_kept at (v.binary one) x)
       (eval (v.core second.now) (world_in a d)) (eval (v.core second.now) (world_in a d)) (form_kept (v.core second.now))) y
   resumed_keeps b (f.Second at one x) y = going_on _ (binary_kept at (v.binary one) x) y
-  resumed_keeps b (f.Row at x names rest n) y =
-      going_on _ (λ u. l.on_answers_rel kept_logic (done (world_in a d) at x (v.names names.now)) (done (world_in a d) at x (v.names names.now)) (done_kept at x (v.names names.now))
+  resumed_keeps b (f.Row one rest n) y =
+      let x = v.core one.now in
+      going_on _ (λ u. l.on_answers_rel kept_logic (done (world_in a d) x) (done (world_in a d) x) (done_kept x)
       (evals (joins x) (forms_of rest.now) (world_in a d)) (evals (joins x) (forms_of rest.now) (world_in a d)) (rows (joins x) (forms_of rest.now)) (last_of n b.operands ++ u ∷ [])) y
   resumed_keeps b (f.Test t) y = going_on _ (rest_kept t) y
   resumed_keeps b (f.Body t) y =
@@ -164,7 +167,7 @@ module _ (a : Around) (d : ℕ) where
       (λ st. on_answer (λ _. falls) (ends y st)) (λ st. on_answer (λ _. falls) (ends y st))
       (going_on (λ _. falls) (λ _. switches.falls_to_rel kept_logic S x.at is_empty rest rest (branches_keep behind.now)
       (s.run_cases S x.at rest) (s.run_cases S x.at rest) (switches.run_cases_rel kept_logic S x.at rest rest (branches_keep behind.now))) y)
-  resumed_keeps b (f.Refused attempt rest value place) y =
+  resumed_keeps b (f.Refused place attempt rest value) y =
       let w = world_in a d in
       let further = s.handled S (clauses (c.handlers (map v.handler rest.now)) w) value place in
       p.finally_rel kept_logic (part (v.part (out-Attempt attempt.now).last) w Null) (part (v.part (out-Attempt attempt.now).last) w Null) (part_kept (v.part (out-Attempt attempt.now).last) Null)
@@ -185,11 +188,13 @@ module _ (a : Around) (d : ℕ) where
   resumed_keeps b (f.Applying at passed) y =
       going_on _ (λ u. calls.apply_rel kept_logic S R R C C I I sites kept_calls kept_inits at u (given_of passed b.operands)) y
   resumed_keeps b (f.Answering x) y = going_on _ (λ _. kept_ends (answer x)) y
-  resumed_keeps b (f.Caller at is_block n base depth body) y =
-      l.leaving_rel kept_logic at (λ st. returned is_block (activation_of body (drop base b.under) b.types) (ends y st)) (λ st. returned is_block (activation_of body (drop base b.under) b.types) (ends y st))
-      (forms.returned_rel kept_logic S R R C C I I sites kept_calls kept_inits is_block (activation_of body (drop base b.under) b.types) (λ st. ends y st) (λ st. ends y st) (kept_ends y))
-  resumed_keeps b (f.Restoring base depth body) y =
-      forms.returned_rel kept_logic S R R C C I I sites kept_calls kept_inits false (activation_of body (drop base b.under) b.types) (λ st. ends y st) (λ st. ends y st) (kept_ends y)
+  resumed_keeps b (f.Caller at is_block n base depth) y =
+      let caller = activation_of (last_body b.bodies) (drop base b.under) b.types in
+      l.leaving_rel kept_logic at (λ st. returned is_block caller (ends y st)) (λ st. returned is_block caller (ends y st))
+      (forms.returned_rel kept_logic S R R C C I I sites kept_calls kept_inits is_block caller (λ st. ends y st) (λ st. ends y st) (kept_ends y))
+  resumed_keeps b (f.Restoring base depth) y =
+      let caller = activation_of (last_body b.bodies) (drop base b.under) b.types in
+      forms.returned_rel kept_logic S R R C C I I sites kept_calls kept_inits false caller (λ st. ends y st) (λ st. ends y st) (kept_ends y)
   resumed_keeps b (f.Settling at x) y =
       l.leaving_rel kept_logic at (λ st. settled x (ends y st)) (λ st. settled x (ends y st)) (p.settled_rel kept_logic x (λ st. ends y st) (λ st. ends y st) (kept_ends y))
 

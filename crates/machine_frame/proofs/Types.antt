@@ -7,11 +7,11 @@ use Rattle.dart_ir.specs.Ty.{Ty, ty}
 use Rattle.machine_frame.specs.Frames.{given_types, types_of, types_under}
 use Rattle.machine_frame.proofs.Rows.{but_push, but_none}
 
-got_last : {A : Type 0} (xs : List A) (x : A) → slice_get (xs ++ x ∷ []) (length xs) ≡ Some x
+pub got_last : {A : Type 0} (xs : List A) (x : A) → slice_get (xs ++ x ∷ []) (length xs) ≡ Some x
 got_last [] x = refl
 got_last (y ∷ xs) x = got_last xs x
 
-long : {A : Type 0} (xs : List A) (x : A) → length (xs ++ x ∷ []) - 1 ≡ length xs
+pub long : {A : Type 0} (xs : List A) (x : A) → length (xs ++ x ∷ []) - 1 ≡ length xs
 long xs x = omega (arith, length-append xs (x ∷ []))
 
 pub own_pushed : (all : List (Vec TypeRef)) (ts : Vec TypeRef) → types_of true (all ++ ts ∷ []) ≡ map ty ts.items

@@ -13,10 +13,8 @@ use Rattle.core_program.specs.declared.form.Case.{Case}
 use Rattle.core_program.specs.declared.form.Core.{Core}
 use Rattle.core_program.specs.declared.form.Handler.{Handler}
 use Rattle.core_program.specs.declared.form.Form.TheViews.{out-Attempt}
-use Rattle.core_program.specs.declared.form.Job.{Job}
 use Rattle.core_program.specs.Core as c
 use Rattle.core_program.specs.View as v
-use Rattle.core_program.specs.ProgramView as p
 use Rattle.machine_lookup.specs.Rows.{last_of, but_last, past}
 use Rattle.evaluation.specs.State.{State, Activation, Source as SourceOf, a_function, an_initialiser, Thrown, Ending, out_of_steps, out_of_objects, out_of_depth, integer_limit, needs_double, type_limit, Completion, answer, jumps, returns, throws, ended, Outcome, ends, Meaning, Given, Callee, World}
 use Rattle.evaluation.specs.Sequence.{on_answer, branch, in_order, on_answers}
@@ -28,7 +26,7 @@ use Rattle.evaluation.specs.Values.{in_prelude}
 use Rattle.evaluation.specs.Creation.{new, new_list}
 use Rattle.evaluation.specs.Types.{is_type, as_type}
 use Rattle.evaluation.specs.Statements as s
-use Rattle.evaluation.specs.Evaluation.{eval, evals, part, clauses, branches, unary, binary, row, binding, returned}
+use Rattle.evaluation.specs.Evaluation.{eval, evals, part, clauses, branches, unary, binary, row, returned}
 use Rattle.machine_frame.specs.declared.around.Around.{Around}
 use Rattle.machine_frame.specs.declared.run.Limit.{Limit}
 use Rattle.machine_frame.specs.declared.run.Limit.TheVariants as limit
@@ -40,14 +38,12 @@ use Rattle.machine_frame.specs.declared.run.Passed.{Passed}
 use Rattle.machine_frame.specs.declared.run.Called.{Called}
 use Rattle.machine_frame.specs.declared.run.Turn.{Turn}
 use Rattle.machine_frame.specs.declared.run.Switching.{Switching}
-use Rattle.machine_frame.specs.declared.run.Task.{Task}
-use Rattle.machine_frame.specs.declared.run.Task.TheVariants as task
 use Rattle.machine_frame.specs.declared.run.Frame.{Frame}
 use Rattle.machine_frame.specs.declared.run.Frame.TheVariants as f
 use Rattle.machine_frame.specs.declared.run.Exit.{Exit}
 use Rattle.machine_frame.specs.declared.run.Exit.TheVariants as exit
 use Rattle.machine_frame.specs.declared.run.Control.{Control}
-use Rattle.machine_frame.specs.declared.run.Control.TheVariants.{Enter, Leave, Bind}
+use Rattle.machine_frame.specs.declared.run.Control.TheVariants.{Enter, Leave}
 use Rattle.machine_frame.specs.declared.run.Run.{Run}
 use Rattle.machine_frame.specs.Outside.{world_in}
 use Rattle.machine_frame.specs.Labels.{labels, labelled_all}
@@ -87,6 +83,22 @@ activation_of b slots types = record {
   caught = thrown_of b.caught;
 }
 
+-- the body of no function
+abbrev pub no_body : Body
+no_body = record { source = source.Function 0; owner = 0; this = Null; closure = Null; has_types = false; caught = None }
+
+abbrev pub body_or_none : Option Body → Body
+body_or_none None = no_body
+body_or_none (Some b) = b
+
+-- the last of the bodies that wait
+abbrev pub last_body : List Body → Body
+last_body bodies = body_or_none (slice_get bodies (length bodies - 1))
+
+-- the others
+abbrev pub bodies_under : List Body → List Body
+bodies_under bodies = but_last 1 bodies
+
 abbrev pub callee_with : Called → List Ty → Callee
 callee_with c types = record { this = c.this; owner = c.owner; closure = c.closure; types = types }
 
@@ -110,13 +122,14 @@ given_of g operands = given (v.names g.names.now) (past g.skip (last_of g.count 
 
 -- ---- frames
 
--- what lies below the frame at hand: how deep calls may nest, the slots and the type arguments of the callers, and what waits for
--- the end of its row
+-- what lies below the frame at hand: how deep calls may nest, the slots, the type arguments and the bodies of the callers, and what
+-- waits for the end of its row
 pub record Below : Type 0 where
   pub depth : ℕ
   pub under : List Value
   pub operands : List Value
   pub types : List (Vec TypeRef)
+  pub bodies : List Body
 
 abbrev pub below_of : Run → Below
 below_of r = record {
@@ -124,6 +137,7 @@ below_of r = record {
   under = take r.base r.slots.items;
   operands = r.operands.items;
   types = types_under r.body.has_types r.types.items;
+  bodies = r.callers.items;
 }
 
 abbrev pub forms_of : List Core → c.Cores ℕ
@@ -164,15 +178,23 @@ cases_run w x cases = s.run_cases w.setting x.at (branches_of w cases)
 abbrev pub case_falls : World → Switching → Bool → List Case → Meaning
 case_falls w x is_empty behind = s.falls_to w.setting x.at is_empty (branches_of w behind) (cases_run w x behind)
 
-abbrev pub joins : Task → Bool
-joins (task.Row job) = is_join (v.job job)
-joins task = false
+abbrev pub joins_of : c.Form ℕ → Bool
+joins_of (c.row job forms names) = is_join job
+joins_of form = false
+
+-- whether a form is a string with parts
+abbrev pub joins : c.Core ℕ → Bool
+joins (c.at place form) = joins_of form
+
+abbrev pub done_of : c.Form ℕ → Place → World → List Value → Meaning
+done_of (c.row job forms names) at w vs = row w at job names vs
+done_of (c.new k f types forms names) at w vs = new w at k f types (given names vs)
+done_of (c.list types forms) at w vs = new_list w.setting types vs
+done_of form at w vs = λ st. ends (answer Null) st
 
 -- the end of a row
-abbrev pub done : World → Place → Task → List ℕ → List Value → Meaning
-done w at (task.Row job) names = row w at (v.job job) names
-done w at (task.New k f types) names = λ vs. new w at k.0 f.0 (map ty types.now) (given names vs)
-done w at (task.List types) names = new_list w.setting (map ty types.now)
+abbrev pub done : World → c.Core ℕ → List Value → Meaning
+done w (c.at place form) = done_of form place w
 
 abbrev pub limit_of : Limit → Ending
 limit_of limit.OutOfSteps = out_of_steps
@@ -205,8 +227,8 @@ resumed w b (f.Operand at is_function one) o = on_answer (unary w at is_function
 resumed w b (f.First at one second) o =
     on_answer (λ x st. on_answer (λ y. binary w at (v.binary one) x y) (eval (v.core second.now) w st)) o
 resumed w b (f.Second at one x) o = on_answer (λ y. binary w at (v.binary one) x y) o
-resumed w b (f.Row at task names rest n) o =
-    on_answer (λ x. on_answers (done w at task (v.names names.now)) (evals (joins task) (forms_of rest.now) w) (last_of n b.operands ++ x ∷ [])) o
+resumed w b (f.Row one rest n) o =
+    on_answer (λ x. on_answers (done w (v.core one.now)) (evals (joins (v.core one.now)) (forms_of rest.now) w) (last_of n b.operands ++ x ∷ [])) o
 resumed w b (f.Test t) o = on_answer (tested w t) o
 resumed w b (f.Body t) o = s.after_body t.target (next_turn w t) o
 resumed w b (f.Update t) o = updated w t o
@@ -217,7 +239,7 @@ resumed w b (f.As at t) o = on_answer (as_type w.setting at (ty t.now)) o
 resumed w b (f.Switch x) o = on_answer (s.switch w.setting x.at x.target (branches_of w x.cases.now)) o
 resumed w b (f.Case x is_empty behind) o =
     s.after_cases x.target (case_from w x) (on_answer (λ _. case_falls w x is_empty behind.now) o)
-resumed w b (f.Refused attempt rest value place) o =
+resumed w b (f.Refused place attempt rest value) o =
     s.finally (part (v.part (out-Attempt attempt.now).last) w Null)
     (on_answer (λ _. s.handled w.setting (clauses (c.handlers (map v.handler rest.now)) w) value place) o)
 resumed w b (f.Trying attempt) o =
@@ -227,18 +249,29 @@ resumed w b (f.Handling last around) o = s.finally (part (v.part last.now) w Nul
 resumed w b (f.Ending x value) o = s.then_ends (completed x value) o
 resumed w b (f.Applying at passed) o = on_answer (λ x. apply w at x (given_of passed b.operands)) o
 resumed w b (f.Answering x) o = on_answer (λ _ st. ends (answer x) st) o
-resumed w b (f.Caller at is_block n base depth body) o = leaving at (returned is_block (activation_of body (drop base b.under) b.types) o)
-resumed w b (f.Restoring base depth body) o = returned false (activation_of body (drop base b.under) b.types) o
+resumed w b (f.Caller at is_block n base depth) o =
+    leaving at (returned is_block (activation_of (last_body b.bodies) (drop base b.under) b.types) o)
+resumed w b (f.Restoring base depth) o = returned false (activation_of (last_body b.bodies) (drop base b.under) b.types) o
 resumed w b (f.Settling at d) o = leaving at (settled d o)
 
 -- what lies below a frame
 abbrev pub below : Below → Frame → Below
-below b (f.Row at task names rest n) = record b { operands = but_last n b.operands }
+below b (f.Row one rest n) = record b { operands = but_last n b.operands }
 below b (f.Applying at passed) = record b { operands = but_last passed.count b.operands }
-below b (f.Caller at is_block n base depth body) =
-    record b { depth = depth; under = take base b.under; operands = but_last n b.operands; types = types_under body.has_types b.types }
-below b (f.Restoring base depth body) =
-    record b { depth = depth; under = take base b.under; types = types_under body.has_types b.types }
+below b (f.Caller at is_block n base depth) = record {
+  depth = depth;
+  under = take base b.under;
+  operands = but_last n b.operands;
+  types = types_under (last_body b.bodies).has_types b.types;
+  bodies = bodies_under b.bodies;
+}
+below b (f.Restoring base depth) = record {
+  depth = depth;
+  under = take base b.under;
+  operands = b.operands;
+  types = types_under (last_body b.bodies).has_types b.types;
+  bodies = bodies_under b.bodies;
+}
 below b frame = b
 
 -- what the frames make of it, the topmost first
@@ -251,11 +284,9 @@ resume a b fs o = resume_from a b (reverse fs) o
 
 -- ---- what comes next
 
-abbrev pub outcome_of : World → Control → Value → List Value → Meaning
-outcome_of w (Enter one) x operands st = eval (v.core one.now) w st
-outcome_of w (Leave how) x operands st = ends (completed how x) st
-outcome_of w (Bind function parameter rest i passed) x operands st =
-    binding w (given_of passed operands) (p.parameter parameter.now ∷ map p.parameter rest.now) i (part (v.part function.now.body) w Null) st
+abbrev pub outcome_of : World → Control → Value → Meaning
+outcome_of w (Enter one) x st = eval (v.core one.now) w st
+outcome_of w (Leave how) x st = ends (completed how x) st
 
 -- the events aside
 abbrev pub mute : Outcome → Outcome
@@ -264,7 +295,7 @@ mute (ends c st) = ends c (record st { events = [] })
 -- how the run ends from here
 abbrev pub going : Around → Run → Control → Outcome
 going a r c =
-    mute (resume a (below_of r) r.frames.items (outcome_of (world_in a r.depth) c r.answer r.operands.items (seen r)))
+    mute (resume a (below_of r) r.frames.items (outcome_of (world_in a r.depth) c r.answer (seen r)))
 
 -- how it ends where the form at work ends so
 abbrev pub ending : Around → Run → Outcome → Outcome
@@ -286,12 +317,11 @@ does_row a r n meaning = ending_row a r n (meaning (world_in a r.depth) (seen r)
 -- may put others in their place
 abbrev pub weight : Control → ℕ
 weight (Enter one) = 2
-weight (Bind function parameter rest i passed) = 3
 weight (Leave (exit.Over e)) = 1
 weight (Leave how) = 5
 
 abbrev pub frame_weight : Frame → ℕ
-frame_weight (f.Row at task names rest n) = 6
+frame_weight (f.Row one rest n) = 6
 frame_weight (f.First at one second) = 6
 frame_weight (f.Second at one x) = 6
 frame_weight (f.Applying at passed) = 4
@@ -326,4 +356,4 @@ value_or_full (Some x) = answer x
 abbrev pub IsBeside : Run → Run → Type 0
 IsBeside old new = (new.frames.items ≡ old.frames.items) × (take new.base new.slots.items ≡ take old.base old.slots.items) × (new.base ≡ old.base)
     × (new.operands.items ≡ old.operands.items) × (new.body ≡ old.body) × (new.depth ≡ old.depth) × (new.left ≡ old.left)
-    × (new.output.items ≡ old.output.items) × (new.types.items ≡ old.types.items)
+    × (new.output.items ≡ old.output.items) × (new.types.items ≡ old.types.items) × (new.callers.items ≡ old.callers.items)

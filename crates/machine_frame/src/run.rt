@@ -1,12 +1,10 @@
 // A run at work: its frames, its stacks and its store.
 #![tactic(auto)]
 
-use core_program::form::{Attempt, Binary, Case, Core, Handler, Job, Part, Unary, Way};
-use core_program::program::{Function, Parameter};
+use core_program::form::{Attempt, Binary, Case, Core, Handler, Part, Unary, Way};
 use dart_base::name::Name;
 use dart_base::place::Place;
 use dart_ir::ending::Line;
-use dart_ir::number::{ClassId, DeclId};
 use dart_ir::types::{TypeRef, Types};
 use dart_ir::value::Value;
 use dart_store::store::Store;
@@ -52,6 +50,16 @@ pub struct Body {
     pub caught: Option<Caught>,
 }
 
+/// The body of no function.
+pub const NO_BODY: Body = Body {
+    source: Source::Function(0),
+    owner: 0,
+    this: Value::Null,
+    closure: Value::Null,
+    has_types: false,
+    caught: None,
+};
+
 /// The last values of the operands, maybe without the first of them, as what is given to a call.
 #[derive(Clone, Copy)]
 pub struct Passed<'a> {
@@ -87,14 +95,6 @@ pub struct Switching<'a> {
     pub cases: &'a [Case],
 }
 
-/// What is done with the answers of a row of forms.
-#[derive(Clone, Copy)]
-pub enum Task<'a> {
-    Row(Job),
-    New(ClassId, DeclId, &'a [TypeRef]),
-    List(&'a [TypeRef]),
-}
-
 /// What waits for the form that is at work.
 #[derive(Clone, Copy)]
 pub enum Frame<'a> {
@@ -110,8 +110,8 @@ pub enum Frame<'a> {
     First(Place, Binary, &'a Core),
     /// The first operand's answer is there.
     Second(Place, Binary, Value),
-    /// A row of which so many answers are among the operands.
-    Row(Place, Task<'a>, &'a [Name], &'a [Core], u32),
+    /// A row, the forms of it that are left, and how many answers are among the operands.
+    Row(&'a Core, &'a [Core], u32),
     Test(Turn<'a>),
     Body(Turn<'a>),
     Update(Turn<'a>),
@@ -127,8 +127,9 @@ pub enum Frame<'a> {
     /// A case whose statements are at work: whether it has none, and the cases behind it.
     Case(Switching<'a>, bool, &'a [Case]),
     Trying(&'a Attempt),
-    /// The type of a handler is malformed, and its form is at work: the handlers behind it, and what was thrown, with its place.
-    Refused(&'a Attempt, &'a [Handler], Value, Place),
+    /// The type of a handler is malformed, and its form is at work: where the exception was thrown, the handlers behind it, and what
+    /// was thrown.
+    Refused(Place, &'a Attempt, &'a [Handler], Value),
     /// A handler at work: the final part, and what was caught around.
     Handling(&'a Part, Option<Caught>),
     /// A final part at work: how the form is left once it is done.
@@ -137,13 +138,16 @@ pub enum Frame<'a> {
     Applying(Place, Passed<'a>),
     /// The answer is this value.
     Answering(Value),
-    /// A call of a function: whether its body is a block, how many operands were given, and the caller.
-    Caller(Place, bool, u32, u32, u32, Body),
-    /// An initialiser at work, and the body that read the variable.
-    Restoring(u32, u32, Body),
+    /// A call of a function: whether its body is a block, how many operands were given, and where the caller's slots begin and how
+    /// deep calls may nest in it.
+    Caller(Place, bool, u32, u32, u32),
+    /// An initialiser at work: where the slots begin of the body that read the variable, and how deep calls may nest in it.
+    Restoring(u32, u32),
     /// A static variable whose initialiser is at work.
     Settling(Place, u32),
 }
+
+const _: () = prove!(size_of::<Frame>() <= 64);
 
 /// How a form is left: what it answers, returns or throws is the run's answer.
 #[derive(Clone, Copy)]
@@ -160,9 +164,9 @@ pub enum Exit {
 pub enum Control<'a> {
     Enter(&'a Core),
     Leave(Exit),
-    /// A parameter of a function and those behind it are bound, and then its body is entered.
-    Bind(&'a Function, &'a Parameter, &'a [Parameter], u32, Passed<'a>),
 }
+
+const _: () = prove!(size_of::<Control>() <= 24);
 
 /// A run at work.
 #[derive(Drop)]
@@ -176,6 +180,8 @@ pub struct Run<'a> {
     /// The type arguments of those `new`s that bodies at work answer, where there are any.
     pub types: Vec<Types>,
     pub body: Body,
+    /// The bodies that wait for the one at work, the last of them for itself.
+    pub callers: Vec<Body>,
     pub answer: Value,
     /// How deep calls may nest from here.
     pub depth: u32,

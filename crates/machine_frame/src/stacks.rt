@@ -3,10 +3,10 @@
 
 ghost use Rattle.std.specs.Prelude.{◌≡◌, ◌∷◌, ◌++◌, [], map, IfOk};
 ghost use Rattle.dart_ir.specs.Ty.{ty};
-ghost use Rattle.machine_frame.specs.Frames.{types_of, types_under};
+ghost use Rattle.machine_frame.specs.Frames.{types_of, types_under, last_body, bodies_under};
 
 use crate::around::Fault;
-use crate::run::{Frame, Run};
+use crate::run::{Body, Frame, NO_BODY, Run};
 use dart_ir::types::{TypeRef, Types};
 use dart_ir::value::Value;
 
@@ -48,6 +48,35 @@ pub fn push_types(run: &mut Run, types: Types) -> Result<bool, Fault>
     match run.types.push(types) {
         Ok(()) => Ok(true),
         Err(_) => Err(Fault::Memory),
+    }
+}
+
+/// Puts the body at work on the others that wait.
+#[tactic(auto, using(crate::proofs::Bodies::last_pushed, crate::proofs::Bodies::under_pushed))]
+#[inline(always)]
+pub fn push_body(run: &mut Run) -> Result<(), Fault>
+    ensures last { IfOk result (λ _. last_body run.new.callers.items ≡ run.old.body) }
+    ensures under { IfOk result (λ _. bodies_under run.new.callers.items ≡ run.old.callers.items) }
+    ensures stays { IfOk result (λ _. run.new ≡ record run.old { callers = run.new.callers }) }
+{
+    let body = run.body;
+    match run.callers.push(body) {
+        Ok(()) => Ok(()),
+        Err(_) => Err(Fault::Memory),
+    }
+}
+
+/// Takes the last of the bodies that wait off the others.
+#[tactic(auto, using(crate::proofs::Bodies::last_pushed, crate::proofs::Bodies::under_pushed, crate::proofs::Bodies::last_none, crate::proofs::Bodies::under_none))]
+#[inline(always)]
+pub fn pop_body(run: &mut Run) -> Body
+    ensures last { result ≡ last_body run.old.callers.items }
+    ensures under { run.new.callers.items ≡ bodies_under run.old.callers.items }
+    ensures stays { run.new ≡ record run.old { callers = run.new.callers } }
+{
+    match run.callers.pop() {
+        None => NO_BODY,
+        Some(body) => body,
     }
 }
 

@@ -1,5 +1,5 @@
 -- The parts of a turn that are entered.
-use Rattle.std.proofs.Common.{◌≡◌, Bool, true, Option, Some, List, [], ◌∷◌, ◌++◌, map, sym, ap, ◌∙◌}
+use Rattle.std.proofs.Common.{◌≡◌, Bool, true, Option, Some, List, [], ◌∷◌, ◌++◌, map, Result, IfOk, subst, sym, ap, ◌∙◌}
 use Rattle.dart_ir.specs.declared.value.Value.{Value}
 use Rattle.dart_ir.specs.declared.value.Value.TheVariants.{Null}
 use Rattle.core_program.specs.View as v
@@ -9,14 +9,16 @@ use Rattle.evaluation.specs.Evaluation.{part}
 use Rattle.evaluation.specs.Variables.{copy}
 use Rattle.evaluation.specs.Statements.{done, body_of_turn}
 use Rattle.machine_frame.specs.declared.around.Around.{Around}
+use Rattle.machine_frame.specs.declared.around.Fault.{Fault}
+use Rattle.machine_frame.specs.declared.run.Control.{Control}
 use Rattle.machine_frame.specs.declared.run.Turn.{Turn}
 use Rattle.machine_frame.specs.declared.run.Frame.{Frame}
 use Rattle.machine_frame.specs.declared.run.Frame.TheVariants as f
 use Rattle.machine_frame.specs.declared.run.Run.{Run}
 use Rattle.machine_frame.specs.Outside.{setting_of, world_in}
-use Rattle.machine_frame.specs.Frames.{seen, below_of, resume, does, mute, IsBeside, loop_of, tested, updated, next_turn, value_or_full}
+use Rattle.machine_frame.specs.Frames.{going, seen, below_of, resume, does, mute, IsBeside, loop_of, tested, updated, next_turn, value_or_full}
 use Rattle.machine_frame.proofs.Resume.{resume_push}
-use Rattle.machine_loop.proofs.Beside.{beside_does}
+use Rattle.machine_frame.proofs.Beside.{beside_does}
 
 -- the body, where the condition holds
 pub body_begins : (a : Around) (r r' : Run) (t : Turn) (x : Value) → is_true x ≡ true → r'.frames.items ≡ r.frames.items ++ f.Body t ∷ [] → r' ≡ record r { frames = r'.frames }
@@ -38,3 +40,7 @@ copied_then a r r' t held x some copied beside =
     beside_does a r r' beside (λ w st. updated w t (part (v.part t.update.now) w Null st))
     ∙ ap (λ (o : Outcome). mute (resume a (below_of r) r.frames.items (on_answer (λ _ st. updated w t (part (v.part t.update.now) w Null st)) o)))
     (sym (copied ∙ ap (λ (h : Option Value). ends (value_or_full h) (seen r')) some))
+
+-- the same outcome in other words
+pub comes_to : (a : Around) (new : Run) (found : Result Control Fault) (x y : Outcome) → x ≡ y → IfOk found (λ k. going a new k ≡ x) → IfOk found (λ k. going a new k ≡ y)
+comes_to a new found x y e h = let P : Outcome → Type 0 = λ o. IfOk found (λ k. going a new k ≡ o) in subst P e h

@@ -28,7 +28,7 @@ use Rattle.machine_frame.specs.declared.run.Limit.TheVariants as limit
 use Rattle.machine_frame.specs.declared.run.Run.{Run}
 use Rattle.machine_frame.specs.Outside.{setting_of, world_in}
 use Rattle.machine_frame.specs.Frames.{seen, below_of, resume, mute, going, does, value_or_full, IsBeside}
-use Rattle.machine_loop.proofs.Beside.{beside_does}
+use Rattle.machine_frame.proofs.Beside.{beside_does}
 
 some_below : (n : ℕ) → nat_lt 0 (1 + n) ≡ true
 some_below n = lt-ltb 0 (1 + n) (omega arith)

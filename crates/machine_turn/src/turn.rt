@@ -68,6 +68,7 @@ fn take_shown(run: Run, end: TurnEnd) -> Turned
         operands: _,
         types: _,
         body: _,
+        callers: _,
         answer: _,
         depth: _,
         left,

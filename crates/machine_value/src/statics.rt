@@ -16,7 +16,7 @@ use dart_store::store::Static;
 use machine_frame::around::{Around, Fault};
 use machine_frame::moves::{answer, enter_part};
 use machine_frame::run::{Body, Control, Exit, Frame, Limit, Run, Source};
-use machine_frame::stacks::push_frame;
+use machine_frame::stacks::{push_body, push_frame};
 use machine_lookup::program::static_of;
 use machine_lookup::row::push_nulls;
 
@@ -75,7 +75,8 @@ fn enter_init<'a>(
         return Err(Fault::Memory);
     };
     push_nulls(&mut run.slots, variable.vars)?;
-    push_frame(run, Frame::Restoring(run.base, run.depth, run.body))?;
+    push_frame(run, Frame::Restoring(run.base, run.depth))?;
+    push_body(run)?;
     run.base = base;
     run.body = Body {
         source: Source::Initialiser(d),

@@ -14,7 +14,7 @@ returns-in-Some-clause-value c =
     let r = c.args.run.now in
     let x = v.core c.args.one.now in
     let m : Meaning = eval x (world_in c.args.a r.depth) in
-    let joined : joins c.args.task ≡ true = first_of (cc, search rules, grind arith) in
+    let joined : joins (v.core c.args.row.now) ≡ true = first_of (cc, search rules, grind arith) in
     let found : constant_of (form_of x) ≡ Some c.in-Some.value = first_of (cc, search rules, grind arith) in
     ap (λ (b : Bool). piece b (constant_of (form_of x)) m (seen r)) joined ∙ ap (λ (o : Option Value). piece true o m (seen r)) found
 
@@ -23,7 +23,7 @@ returns-then-joins-clause-value c =
     let r = c.args.run.now in
     let x = v.core c.args.one.now in
     let m : Meaning = eval x (world_in c.args.a r.depth) in
-    let joined : joins c.args.task ≡ true = first_of (cc, search rules, grind arith) in
+    let joined : joins (v.core c.args.row.now) ≡ true = first_of (cc, search rules, grind arith) in
     let found : constant_of (form_of x) ≡ None = first_of (cc, search rules, grind arith) in
     ap (λ (b : Bool). piece b (constant_of (form_of x)) m (seen r)) joined ∙ ap (λ (o : Option Value). piece true o m (seen r)) found
 
@@ -31,8 +31,8 @@ pub returns-clause-value : goal.returns-clause-value
 returns-clause-value c =
     let r = c.args.run.now in
     let x = v.core c.args.one.now in
-    let joined : joins c.args.task ≡ false = first_of (cc, search rules, grind arith) in
-    piece_quick c.quick.result (λ p. p.0) (λ p. p.1) (joins c.args.task) (constant_of (form_of x)) (eval x (world_in c.args.a r.depth)) (seen r) joined c.quick.ensures.value
+    let joined : joins (v.core c.args.row.now) ≡ false = first_of (cc, search rules, grind arith) in
+    piece_quick c.quick.result (λ p. p.0) (λ p. p.1) (joins (v.core c.args.row.now)) (constant_of (form_of x)) (eval x (world_in c.args.a r.depth)) (seen r) joined c.quick.ensures.value
 
 pub returns-clause-less : goal.returns-clause-less
 returns-clause-less c = at_most c.quick.result (λ p. p.1) c.args.run.now.left c.quick.ensures.less
