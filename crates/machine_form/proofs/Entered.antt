@@ -25,6 +25,8 @@ use Rattle.machine_frame.specs.declared.run.Run.{Run}
 use Rattle.machine_frame.specs.Outside.{setting_of, world_in}
 use Rattle.machine_frame.specs.Labels.{within, labels, labelled_all}
 use Rattle.machine_frame.specs.Frames.{seen, below_of, below, resumed, resume, mute, going, ending, does}
+use Rattle.evaluation.proofs.Kept.{Keeps}
+use Rattle.machine_frame.proofs.Mute.{answered_goes}
 use Rattle.machine_frame.proofs.Resume.{resume_push}
 use Rattle.machine_frame.proofs.Steps.{form_enters, form_enters_not}
 use Rattle.machine_frame.proofs.Labels.{labels_eval, labels_end, none_left}
@@ -72,9 +74,9 @@ module _ (a : Around) (r : Run) where
 
   -- an operand is answered at once
   pub answered_after : (x : c.Core ℕ) (value : Value) (n : ℕ) (after : World → Outcome → Outcome)
-      → eval x (world_in a r.depth) (seen r) ≡ ends (answer value) (record (seen r) { left = n })
+      → Keeps (after (world_in a r.depth)) → mute (eval x (world_in a r.depth) (seen r)) ≡ mute (ends (answer value) (record (seen r) { left = n }))
       → does a (record r { left = n }) (λ w st. after w (ends (answer value) st)) ≡ does a r (λ w st. after w (eval x w st))
-  answered_after x value n after e = sym (ap (λ (o : Outcome). ending a r (after (world_in a r.depth) o)) e)
+  answered_after x value n after k e = sym (answered_goes a r (after (world_in a r.depth)) k (eval x (world_in a r.depth) (seen r)) (ends (answer value) (record (seen r) { left = n })) e)
 
   -- members of an object's class
   pub get_class : (at : Place) (name : ℕ) (this : Value) (class : ℕ) → class_of (setting_of a) r.store this ≡ Some class

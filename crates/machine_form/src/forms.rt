@@ -31,7 +31,7 @@ use machine_frame::stacks::push_frame;
 use machine_frame::variables::read_variable;
 use machine_lookup::program::takes_step;
 use machine_loop::loops::{begin_turn, take_turn};
-use machine_loop::quick::quick;
+use machine_loop::operators::at_once;
 use machine_value::errors::throw_named;
 use machine_value::objects::make_closure;
 use machine_value::statics::static_read;
@@ -371,7 +371,7 @@ fn enter_let<'a>(
     ensures meaning { IfOk result (λ c. going a.entry run.new c ≡ does a.entry run.old (λ w st. on_answer (λ _. eval (v.core body.now) w) (on_answer (x.declare w.setting var) (eval (v.core value.now) w st)))) }
     ensures less { IfOk result (λ c. work run.new c < room run.old + 6) }
 {
-    match quick(run, a, value, run.left) {
+    match at_once(run, a, value, run.left) {
         None => wait(run, a, Frame::Let(var, body), value),
         Some((found, left)) => {
             run.left = left;
@@ -392,7 +392,7 @@ fn enter_if<'a>(
     ensures meaning { IfOk result (λ c. going a.entry run.new c ≡ does a.entry run.old (λ w st. on_answer (λ x. branch x (part (v.part first.now) w Null) (part (v.part second.now) w Null)) (eval (v.core condition.now) w st))) }
     ensures less { IfOk result (λ c. work run.new c < room run.old + 6) }
 {
-    match quick(run, a, condition, run.left) {
+    match at_once(run, a, condition, run.left) {
         None => wait(run, a, Frame::Choice(first, second), condition),
         Some((value, left)) => {
             run.left = left;
@@ -440,7 +440,7 @@ fn return_of<'a>(run: &mut Run<'a>, a: Around<'a>, value: &'a Part) -> Result<Co
             run.answer = Value::Null;
             Ok(Control::Leave(Exit::Returns))
         }
-        Part::Given(core) => match quick(run, a, core, run.left) {
+        Part::Given(core) => match at_once(run, a, core, run.left) {
             None => wait(run, a, Frame::Returning, core),
             Some((found, left)) => {
                 run.left = left;

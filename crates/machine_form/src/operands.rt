@@ -5,6 +5,7 @@ ghost use Rattle.dart_store.specs.Heap.{with_static};
 ghost use Rattle.core_program.specs.View as v;
 ghost use Rattle.evaluation.specs.State.{State, Outcome, Completion, answer, ends};
 ghost use Rattle.evaluation.specs.Evaluation.{unary, binary, declared_with, site};
+ghost use Rattle.evaluation.specs.Invocation as call;
 ghost use Rattle.evaluation.specs.Variables as x;
 ghost use Rattle.machine_frame.specs.Outside.{setting_of, world_in};
 ghost use Rattle.machine_frame.specs.Frames.{seen, going, does, room, work, value_or_full};
@@ -20,6 +21,7 @@ use machine_frame::moves::answer;
 use machine_frame::objects::{class_of, field_total};
 use machine_frame::run::{Control, Exit, Limit, Run};
 use machine_frame::variables::{declare, write_variable};
+use machine_loop::operators::equality;
 use machine_value::errors::throw_value;
 
 /// What is done with an operand's answer.
@@ -173,10 +175,33 @@ pub fn finish_binary<'a>(
     ensures less { IfOk result (λ c. work run.new c < room run.old + 10) }
 {
     match one {
-        Binary::Equal => equal(run, a, at, first, second),
+        Binary::Equal => equal_operands(run, a, at, first, second),
         Binary::Set(name) => {
             let class = class_of(run, a, first);
             set_from(run, a, at, class, name.0, first, second)
+        }
+    }
+}
+
+/// Two operands are compared; integers are at once.
+#[tactic(auto, using(machine_loop::proofs::Operated::answered_at_once))]
+#[inline(always)]
+fn equal_operands<'a>(
+    run: &mut Run<'a>,
+    a: Around<'a>,
+    at: Place,
+    first: Value,
+    second: Value,
+) -> Result<Control<'a>, Fault>
+    ensures meaning { IfOk result (λ c. going a.entry run.new c ≡ does a.entry run.old (λ w. call.equal w at first second)) }
+    ensures less { IfOk result (λ c. work run.new c < room run.old + 10) }
+{
+    match equality(run, a, first, second, run.left) {
+        None => equal(run, a, at, first, second),
+        Some((value, left)) => {
+            run.left = left;
+            run.answer = value;
+            Ok(Control::Leave(Exit::Answered))
         }
     }
 }

@@ -17,7 +17,7 @@ use machine_frame::moves::wait;
 use machine_frame::run::{Control, Exit, Frame, Limit, Run};
 use machine_frame::variables::declare;
 use machine_lookup::program::is_closure;
-use machine_loop::quick::quick;
+use machine_loop::operators::at_once;
 
 /// A form with one operand.
 #[inline(always)]
@@ -34,7 +34,7 @@ pub fn enter_unary<'a>(
     if is_closure(operand) {
         return enter_function(run, a, at, one, operand);
     }
-    match quick(run, a, operand, run.left) {
+    match at_once(run, a, operand, run.left) {
         None => wait_operand(run, a, at, false, one, operand),
         Some((value, left)) => {
             run.left = left;
@@ -111,7 +111,7 @@ pub fn enter_binary<'a>(
     ensures meaning { IfOk result (λ c. going a.entry run.new c ≡ does a.entry run.old (λ w st. on_answer (λ x st. on_answer (λ y. binary w at (v.binary one) x y) (eval (v.core second.now) w st)) (eval (v.core first.now) w st))) }
     ensures less { IfOk result (λ c. work run.new c < room run.old + 10) }
 {
-    match quick(run, a, first, run.left) {
+    match at_once(run, a, first, run.left) {
         None => wait(run, a, Frame::First(at, one, second), first),
         Some((value, left)) => {
             run.left = left;
@@ -133,7 +133,7 @@ pub fn second_operand<'a>(
     ensures meaning { IfOk result (λ c. going a.entry run.new c ≡ does a.entry run.old (λ w st. on_answer (λ y. binary w at (v.binary one) value y) (eval (v.core second.now) w st))) }
     ensures less { IfOk result (λ c. work run.new c < room run.old + 10) }
 {
-    match quick(run, a, second, run.left) {
+    match at_once(run, a, second, run.left) {
         None => wait(run, a, Frame::Second(at, one, value), second),
         Some((other, left)) => {
             run.left = left;

@@ -8,8 +8,10 @@ ghost use Rattle.evaluation.specs.Sequence.{on_answer, on_answers};
 ghost use Rattle.evaluation.specs.Parts.{form_of, is_join, constant_of, constant_leaf};
 ghost use Rattle.evaluation.specs.Evaluation.{eval, evals, piece, row};
 ghost use Rattle.evaluation.specs.Externals.{native};
+ghost use Rattle.evaluation.specs.Arguments.{alone};
+ghost use Rattle.evaluation.specs.Invocation as call;
 ghost use Rattle.machine_frame.specs.Outside.{setting_of, world_in};
-ghost use Rattle.machine_frame.specs.Frames.{seen, going, does, does_row, room, work, forms_of, done, joins, joins_of, given_of};
+ghost use Rattle.machine_frame.specs.Frames.{seen, mute, going, does, does_row, room, work, forms_of, done, joins, joins_of, given_of};
 
 use core_program::form::{Core, Form, Job, Leaf};
 use dart_base::name::Name;
@@ -20,10 +22,10 @@ use machine_call::calls::{null_of_call, static_call};
 use machine_call::creation::{construct, create};
 use machine_call::sends::{send, super_member};
 use machine_frame::around::{Around, Fault};
-use machine_frame::run::{Control, Frame, Passed, Run};
+use machine_frame::run::{Control, Exit, Frame, Passed, Run};
 use machine_frame::stacks::{push_frame, push_operand};
-use machine_lookup::row::{first_form, first_value, last_of};
-use machine_loop::quick::quick;
+use machine_lookup::row::{cut, first_form, first_value, last_of, past_first};
+use machine_loop::operators::{at_once, operated};
 use machine_native::natives::native;
 use machine_value::objects::make_list;
 use machine_value::texts::join;
@@ -80,7 +82,7 @@ pub fn next<'a>(
 fn piece_value<'a>(run: &Run<'a>, a: Around<'a>, row: &Core, one: &Core) -> Option<(Value, u64)>
     ensures value { MatchOption result
         (piece (joins (v.core row.now)) (constant_of (form_of (v.core one.now))) (eval (v.core one.now) (world_in a.entry run.now.depth)) (seen run.now) ≡ eval (v.core one.now) (world_in a.entry run.now.depth) (seen run.now))
-        (λ p. piece (joins (v.core row.now)) (constant_of (form_of (v.core one.now))) (eval (v.core one.now) (world_in a.entry run.now.depth)) (seen run.now) ≡ ends (answer p.0) (record (seen run.now) { left = p.1 })) }
+        (λ p. mute (piece (joins (v.core row.now)) (constant_of (form_of (v.core one.now))) (eval (v.core one.now) (world_in a.entry run.now.depth)) (seen run.now)) ≡ mute (ends (answer p.0) (record (seen run.now) { left = p.1 }))) }
     ensures less { IfSome result (λ p. p.1 ≤ run.now.left) }
 {
     if joins(row) {
@@ -89,7 +91,7 @@ fn piece_value<'a>(run: &Run<'a>, a: Around<'a>, row: &Core, one: &Core) -> Opti
         }
         return None;
     }
-    quick(run, a, one, run.left)
+    at_once(run, a, one, run.left)
 }
 
 /// Whether a form is a string with parts.
@@ -335,7 +337,7 @@ fn finish_job<'a>(
     match job {
         Job::Send(name) => match receiver(run, passed.count) {
             None => Ok(null_of_call(run, a, passed.count)),
-            Some(this) => send(run, a, at, name.0, this, with_receiver(passed)),
+            Some(this) => send_operands(run, a, at, name.0, this, with_receiver(passed)),
         },
         Job::Apply => match receiver(run, passed.count) {
             None => Ok(null_of_call(run, a, passed.count)),
@@ -347,6 +349,65 @@ fn finish_job<'a>(
         Job::Join => join(run, a, at, passed.count),
         Job::Native(id) => native(run, a, at, id, passed.count),
     }
+}
+
+/// A member of an object is called with the last operands; an operator of an integer is answered at once.
+#[tactic(auto, using(machine_loop::proofs::Operated::row_answered))]
+#[inline(always)]
+fn send_operands<'a>(
+    run: &mut Run<'a>,
+    a: Around<'a>,
+    at: Place,
+    name: u32,
+    this: Value,
+    passed: Passed<'a>,
+) -> Result<Control<'a>, Fault>
+    ensures meaning { IfOk result (λ c. going a.entry run.new c ≡ does_row a.entry run.old passed.entry.count (λ w. call.send w at name this (given_of passed.entry run.old.operands.items))) }
+    ensures less { IfOk result (λ c. work run.new c < room run.old + 10) }
+{
+    match operand_answer(run, a, name, this, passed) {
+        None => send(run, a, at, name, this, passed),
+        Some((value, left)) => {
+            cut(&mut run.operands, passed.count);
+            run.left = left;
+            run.answer = value;
+            Ok(Control::Leave(Exit::Answered))
+        }
+    }
+}
+
+/// What an operator answers that is called with the last operand, and the steps left after it. `None` says nothing.
+#[inline(always)]
+fn operand_answer<'a>(
+    run: &Run<'a>,
+    a: Around<'a>,
+    name: u32,
+    this: Value,
+    passed: Passed<'a>,
+) -> Option<(Value, u64)>
+    ensures value { IfSome result (λ r. (at : Place) → mute (call.send (world_in a.entry run.now.depth) at name this (given_of passed.entry run.now.operands.items) (seen run.now))
+        ≡ mute (ends (answer r.0) (record (seen run.now) { left = r.1 }))) }
+    ensures less { IfSome result (λ r. r.1 < run.now.left) }
+{
+    let Some(value) = only_operand(run, passed) else {
+        return None;
+    };
+    operated(run, a, name, this, value, run.left)
+}
+
+/// The operand that is given, where it is one alone and goes by no name.
+#[tactic(auto, using(crate::proofs::Rowed::only))]
+fn only_operand<'a>(run: &Run<'a>, passed: Passed<'a>) -> Option<Value>
+    ensures { IfSome result (λ value. given_of passed.entry run.now.operands.items ≡ alone value) }
+{
+    let values = past_first(last_of(run.operands.as_slice(), passed.count), passed.skip);
+    let Some((value, rest)) = values.split_first() else {
+        return None;
+    };
+    if rest.len() != 0 || passed.names.len() != 0 {
+        return None;
+    }
+    Some(*value)
 }
 
 /// The first of the last operands.

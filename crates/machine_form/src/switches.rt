@@ -23,7 +23,7 @@ use machine_frame::around::{Around, Fault};
 use machine_frame::moves::{answer, wait};
 use machine_frame::run::{Control, Exit, Frame, Run, Switching};
 use machine_lookup::row::first_form;
-use machine_loop::quick::quick;
+use machine_loop::operators::at_once;
 use machine_value::errors::throw_new;
 
 /// A switch: its operand comes first.
@@ -36,7 +36,7 @@ pub fn enter_switch<'a>(
     ensures meaning { IfOk result (λ c. going a.entry run.new c ≡ does a.entry run.old (λ w st. on_answer (s.switch w.setting one.entry.at one.entry.target (branches_of w one.entry.cases.now)) (eval (v.core operand.now) w st))) }
     ensures less { IfOk result (λ c. work run.new c < room run.old + 6) }
 {
-    match quick(run, a, operand, run.left) {
+    match at_once(run, a, operand, run.left) {
         None => wait(run, a, Frame::Switch(one), operand),
         Some((value, left)) => {
             run.left = left;

@@ -15,7 +15,7 @@ use Rattle.core_program.specs.declared.form.Form.TheViews.{out-Attempt}
 use Rattle.evaluation.specs.State.{State, now, Event, tested, with_event, Completion, answer, returns, ended, Outcome, ends, Meaning, Reaction, Given, Callee, Setting}
 use Rattle.evaluation.specs.Sequence.{on_answer, is_true}
 use Rattle.evaluation.specs.Values.{head_of, arguments_here}
-use Rattle.evaluation.specs.Evaluation.{eval, evals, part, clauses, nested, site, binary, binding, returned}
+use Rattle.evaluation.specs.Evaluation.{eval, evals, part, clauses, nested, site, binary, row, binding, returned}
 use Rattle.evaluation.specs.Invocation.{leaving}
 use Rattle.evaluation.specs.Statements as s
 use Rattle.evaluation.specs.Variables.{declare, settled}
@@ -30,10 +30,11 @@ use Rattle.machine_frame.specs.declared.around.Around.{Around}
 use Rattle.machine_frame.specs.declared.run.Turn.{Turn}
 use Rattle.machine_frame.specs.declared.run.Frame.{Frame}
 use Rattle.machine_frame.specs.declared.run.Frame.TheVariants as f
+use Rattle.machine_frame.specs.declared.run.Run.{Run}
 use Rattle.machine_frame.specs.Outside.{checking_of, setting_of, world_in}
-use Rattle.machine_lookup.specs.Rows.{last_of}
+use Rattle.machine_lookup.specs.Rows.{last_of, but_last}
 use Rattle.machine_frame.specs.Labels.{labels, labelled_all}
-use Rattle.machine_frame.specs.Frames.{Below, below, forms_of, loop_of, next_turn, tested as tested_by, updated, done, done_of, joins, last_body, completed, thrown_of, given_of, activation_of, branches_of, case_from, case_falls, resumed, resume_from, resume, mute}
+use Rattle.machine_frame.specs.Frames.{Below, below, forms_of, loop_of, next_turn, tested as tested_by, updated, done, done_of, joins, last_body, completed, thrown_of, given_of, activation_of, branches_of, case_from, case_falls, resumed, resume_from, resume, mute, below_of, ending, ending_row}
 
 mute_front : (e : Event) (o : Outcome) → mute (front e o) ≡ mute o
 mute_front e (ends c st) = refl
@@ -47,7 +48,7 @@ den_mute_from d k (x ∷ es) st e =
 den_mute : (d : Meaning) → Kept d → (st : State) → mute (d st) ≡ mute (d (record st { events = [] }))
 den_mute d k st = den_mute_from d k st.events (record st { events = [] }) refl
 
-keeps_mute : (g : Outcome → Outcome) → Keeps g → (o : Outcome) → mute (g o) ≡ mute (g (mute o))
+pub keeps_mute : (g : Outcome → Outcome) → Keeps g → (o : Outcome) → mute (g o) ≡ mute (g (mute o))
 keeps_mute g k (ends c st) = den_mute (λ st. g (ends c st)) (k c) st
 
 module _ (a : Around) (d : ℕ) where
@@ -72,13 +73,13 @@ module _ (a : Around) (d : ℕ) where
   kept_inits : (x : ℕ) → Kept (I x)
   kept_inits = forms.inits_rel kept_logic S R R sites d
 
-  form_kept : (x : c.Core ℕ) → Kept (eval x (world_in a d))
+  pub form_kept : (x : c.Core ℕ) → Kept (eval x (world_in a d))
   form_kept x = forms.eval_rel kept_logic S R R C C I I sites kept_calls kept_inits x
 
-  part_kept : (x : c.Part ℕ) (u : Value) → Kept (part x (world_in a d) u)
+  pub part_kept : (x : c.Part ℕ) (u : Value) → Kept (part x (world_in a d) u)
   part_kept x u = forms.part_rel kept_logic S R R C C I I sites kept_calls kept_inits x u
 
-  rows : (b : Bool) (xs : c.Cores ℕ) → l.Rows kept_logic (evals b xs (world_in a d)) (evals b xs (world_in a d))
+  pub rows : (b : Bool) (xs : c.Cores ℕ) → l.Rows kept_logic (evals b xs (world_in a d)) (evals b xs (world_in a d))
   rows b xs = forms.evals_rel kept_logic S R R C C I I sites kept_calls kept_inits b xs
 
   loop_kept : (t : Turn) → Kept (loop_of (world_in a d) t)
@@ -104,6 +105,13 @@ module _ (a : Around) (d : ℕ) where
       (part_kept (v.part t.condition.now) (Truth true)) (part_kept (v.part t.update.now) Null) (part_kept (v.part t.body.now) Null)
       (loop_of w t) (loop_of w t) (loop_kept t) u
 
+  -- a value that comes to a site
+  pub site_kept : (n : ℕ) (u : Value) → Kept (site (world_in a d) n u)
+  site_kept n u = calls.site_rel kept_logic S R R C C I I sites kept_calls kept_inits n u
+
+  pub row_keeps : (at : Place) (job : c.Job ℕ) (names : List ℕ) (vs : List Value) → Kept (row (world_in a d) at job names vs)
+  row_keeps at job names vs = forms.row_rel kept_logic S R R C C I I sites kept_calls kept_inits at job names vs
+
   form_done : (x : c.Form ℕ) (at : Place) (vs : List Value) → Kept (done_of x at (world_in a d) vs)
   form_done (c.row job xs names) at vs = forms.row_rel kept_logic S R R C C I I sites kept_calls kept_inits at job names vs
   form_done (c.new k x types xs names) at vs = calls.new_rel kept_logic S R R C C I I sites kept_calls kept_inits at k x types (record { values = vs; names = names })
@@ -114,10 +122,10 @@ module _ (a : Around) (d : ℕ) where
   done_kept (c.at place x) vs = form_done x place vs
 
   -- what an answer goes on with
-  going_on : (go : Value → Meaning) → ((u : Value) → Kept (go u)) → Keeps (on_answer go)
+  pub going_on : (go : Value → Meaning) → ((u : Value) → Kept (go u)) → Keeps (on_answer go)
   going_on go k y = l.answers kept_logic go go k (λ st. ends y st) (λ st. ends y st) (kept_ends y)
 
-  binary_kept : (at : Place) (one : c.Binary ℕ) (x y : Value) → Kept (binary (world_in a d) at one x y)
+  pub binary_kept : (at : Place) (one : c.Binary ℕ) (x y : Value) → Kept (binary (world_in a d) at one x y)
   binary_kept at one x y = forms.binary_rel kept_logic S R R C C I I sites kept_calls kept_inits at one x y
 
   labels_keep : (ns : List ℕ) → Keeps (labelled_all ns)
@@ -128,7 +136,7 @@ module _ (a : Around) (d : ℕ) where
   branches_keep : (xs : List Case) → switches.Branches kept_logic (branches_of (world_in a d) xs) (branches_of (world_in a d) xs)
   branches_keep xs = forms.branches_rel kept_logic S R R C C I I sites kept_calls kept_inits (c.cases (map v.case xs))
 
-  resumed_keeps : (b : Below) (frame : Frame) → Keeps (resumed (world_in a d) b frame)
+  pub resumed_keeps : (b : Below) (frame : Frame) → Keeps (resumed (world_in a d) b frame)
   resumed_keeps b (f.Rest xs) y =
       going_on _ (l.in_order_rel kept_logic (evals false (forms_of xs.now) (world_in a d)) (evals false (forms_of xs.now) (world_in a d)) (rows false (forms_of xs.now))) y
   resumed_keeps b (f.Choice one other) y =
@@ -213,12 +221,21 @@ pub quiet : (a : Around) (b : Below) (fs : List Frame) (o o' : Outcome) → mute
 quiet a b fs o o' e =
     resume_from_mute a b (reverse fs) o ∙ ap (λ o. mute (resume_from a b (reverse fs) o)) e ∙ sym (resume_from_mute a b (reverse fs) o')
 
+-- what waits for an outcome goes on alike, where that is known but for events
+pub answered_goes : (a : Around) (r : Run) (g : Outcome → Outcome) → Keeps g → (o o' : Outcome) → mute o ≡ mute o' → ending a r (g o) ≡ ending a r (g o')
+answered_goes a r g k o o' e =
+    quiet a (below_of r) r.frames.items (g o) (g o') (keeps_mute g k o ∙ ap (λ o. mute (g o)) e ∙ sym (keeps_mute g k o'))
+
+pub row_answered_goes : (a : Around) (r : Run) (count : ℕ) (g : Outcome → Outcome) → Keeps g → (o o' : Outcome) → mute o ≡ mute o' → ending_row a r count (g o) ≡ ending_row a r count (g o')
+row_answered_goes a r count g k o o' e =
+    quiet a (record (below_of r) { operands = but_last count r.operands.items }) r.frames.items (g o) (g o') (keeps_mute g k o ∙ ap (λ o. mute (g o)) e ∙ sym (keeps_mute g k o'))
+
 -- in production a value that comes to a site passes
-passes_by : (b : Bool) (a : Around) (n : ℕ) (u : Value) (st : State) → judged b (checking_of a) (setting_of a) lets_pass n u st ≡ ends (answer u) st
+pub passes_by : (b : Bool) (a : Around) (n : ℕ) (u : Value) (st : State) → judged b (checking_of a) (setting_of a) lets_pass n u st ≡ ends (answer u) st
 passes_by true a n u st = refl
 passes_by false a n u st = refl
 
-site_passes : (a : Around) (d n : ℕ) (u : Value) (st : State) → mute (site (world_in a d) n u st) ≡ mute (ends (answer u) st)
+pub site_passes : (a : Around) (d n : ℕ) (u : Value) (st : State) → mute (site (world_in a d) n u st) ≡ mute (ends (answer u) st)
 site_passes a d n u st =
     ap mute (passes_by (passes (checking_of a) n (head_of (setting_of a) st.heap u) (arguments_here (setting_of a) (now st))) a n u
     (with_event st (tested n (head_of (setting_of a) st.heap u) (arguments_here (setting_of a) (now st)))))

@@ -1,5 +1,5 @@
 -- What natives do that are not the evaluator's, and those of numbers.
-use Rattle.std.proofs.Common.{◌≡◌, ℕ, ◌+◌, ◌-◌, ◌/◌, List, [], ◌∷◌, take, sum_by, refl, sym, ap, ◌∙◌, nat_lt, Bool, true, false, if◌then◌else◌, ℤ, Option, Some, None, slice_index_or, arith}
+use Rattle.std.proofs.Common.{◌≡◌, ℕ, ◌+◌, ◌-◌, ◌/◌, List, [], ◌∷◌, take, sum_by, refl, sym, ap, ◌∙◌, nat_lt, Bool, true, false, if◌then◌else◌, ℤ, ◌==◌, ◌&&◌, Option, Some, None, slice_index_or, arith}
 use Rattle.std.proofs.lemmas.Option.{none-some, same_Some}
 use Rattle.dart_base.specs.declared.place.Place.{Place}
 use Rattle.dart_ir.specs.declared.native.Answer.{Answer}
@@ -197,3 +197,9 @@ module _ (around : Around) (at : Place) (id : NativeId) (vs : List Value) (st : 
 pub native_gives : (around : Around) (at : Place) (id : NativeId) (x y : Value) (st : State) (z : Value) → number_native id x y ≡ Some (a.Value z)
     → native (setting_of around) at id (x ∷ y ∷ []) st ≡ ends (answer z) st
 native_gives around at id x y st z e = number_answers around at id (x ∷ y ∷ []) st z e
+
+-- two integers are equal by their words
+pub integers_equal : (around : Around) (at : Place) (high low other_high other_low : ℕ) (st : State)
+    → native (setting_of around) at n.ObjectEqual (Int high low ∷ Int other_high other_low ∷ []) st ≡ ends (answer (Truth (high == other_high && low == other_low))) st
+integers_equal around at high low other_high other_low st =
+    planned around at n.ObjectEqual (Int high low ∷ Int other_high other_low ∷ []) st (Truth (high == other_high && low == other_low)) 2 refl refl refl (λ ts. refl)

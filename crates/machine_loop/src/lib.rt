@@ -2,4 +2,5 @@
 #![tactic(auto, using(machine_frame::proofs::Resume::resume_push, machine_frame::proofs::Steps::load_push, machine_frame::proofs::Rows::row_laws))]
 
 pub mod loops;
+pub mod operators;
 pub mod quick;

@@ -7,7 +7,7 @@ ghost use Rattle.evaluation.specs.Evaluation.{part};
 ghost use Rattle.machine_frame.specs.Outside.{setting_of, world_in};
 ghost use Rattle.machine_frame.specs.Frames.{going, does, room, work, loop_of, tested, next_turn, updated};
 
-use crate::quick::quick;
+use crate::operators::at_once;
 use core_program::form::Part;
 use dart_ir::value::Value;
 use machine_frame::around::{Around, Fault};
@@ -55,7 +55,7 @@ fn condition<'a>(run: &mut Run<'a>, a: Around<'a>, turn: Turn<'a>) -> Result<Con
 {
     match turn.condition {
         Part::Missing => decided(run, a, turn, Value::Bool(true)),
-        Part::Given(core) => match quick(run, a, core, run.left) {
+        Part::Given(core) => match at_once(run, a, core, run.left) {
             Some((value, left)) => {
                 run.left = left;
                 decided(run, a, turn, value)
@@ -110,7 +110,7 @@ pub fn update_after<'a>(
 {
     match turn.update {
         Part::Missing => begin_turn(run, a, turn),
-        Part::Given(core) => match quick(run, a, core, run.left) {
+        Part::Given(core) => match at_once(run, a, core, run.left) {
             Some((_, left)) => {
                 run.left = left;
                 begin_turn(run, a, turn)

@@ -138,7 +138,7 @@ fn native_quick(
 
 /// What a native of numbers answers, where it is a value.
 #[inline(always)]
-fn native_value(native: NativeId, x: Value, y: Value) -> Option<Value>
+pub fn native_value(native: NativeId, x: Value, y: Value) -> Option<Value>
     ensures { IfSome result (λ value. number_native native x y ≡ Some (Answer.Value value)) }
 {
     match number_native(native, x, y) {

@@ -18,4 +18,4 @@ returns-in_ok-control-in-Some-piece_value-clause-meaning t c =
     let found = c.in-Some-piece_value in
     let next : c.in-Some-checked_add.more ≡ c.args.count + 1 = first_of (omega arith, search rules, grind arith) in
     c.in_ok-control-in-Some-piece_value.ensures.meaning
-    ∙ row_goes c.args.a c.args.run.now c.args.one c.args.count c.push_operand.new.run c.args.forms.now c.in-Some.first.now c.in-Some.rest.now found.value found.left c.in-Some-checked_add.more c.in-Some.ensures next pushed.pushed pushed.stays found.ensures.value
+    ∙ row_goes c.args.a c.args.run.now c.args.one c.args.count c.push_operand.new.run c.args.forms.now c.in-Some.first.now c.in-Some.rest found.value found.left c.in-Some-checked_add.more c.in-Some.ensures next pushed.pushed pushed.stays found.ensures.value

@@ -10,8 +10,8 @@ returns-in-None-clause-meaning c =
 pub returns-in-Some-clause-meaning : goal.returns-in-Some-clause-meaning
 returns-in-Some-clause-meaning c =
     let on = c.with_receiver in
-    comes_to c.args.a c.send.new.run c.send.result _ _
-    (send_goes c.args.a c.args.run.now c.args.at c.args.passed c.args.job c.in-Send.name on.result c.in-Some.this c.in-Send.is on.ensures.names on.ensures.rest.0 on.ensures.rest.1 c.in-Some.ensures) c.send.ensures.meaning
+    comes_to c.args.a c.send_operands.new.run c.send_operands.result _ _
+    (send_goes c.args.a c.args.run.now c.args.at c.args.passed c.args.job c.in-Send.name on.result c.in-Some.this c.in-Send.is on.ensures.names on.ensures.rest.0 on.ensures.rest.1 c.in-Some.ensures) c.send_operands.ensures.meaning
 
 pub returns-in-None-receiver-clause-meaning : goal.returns-in-None-receiver-clause-meaning
 returns-in-None-receiver-clause-meaning c =
