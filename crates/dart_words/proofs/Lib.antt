@@ -1,3 +1,3 @@
 pub mod Limits
 pub mod Numerals
-pub mod Options
+pub mod Taken

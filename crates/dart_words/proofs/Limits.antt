@@ -3,10 +3,11 @@ use Rattle.std.specs.Prelude.{MatchOption, IfSome, ◌&&◌, option_and_then, op
 use Rattle.std.specs.Str.{bytes_eq}
 use Rattle.std.proofs.Common.{◌≡◌, ◌≤◌, ℕ, List, [], ◌∷◌, Bool, true, false, Option, Some, None, if◌then◌else◌, nat_le, subst, refl, codes, lit≤, arith}
 use Rattle.dart_base.specs.declared.limit.TheConstants.{STEPS, STORE_UNITS, USUAL_STEPS, USUAL_STORE_UNITS}
-use Rattle.dart_words.specs.declared.budget.Given.{Given}
+use Rattle.dart_words.specs.declared.options.Given.{Given}
 use Rattle.dart_words.specs.declared.words.Verb.{Verb}
 use Rattle.dart_words.specs.declared.words.Verb.TheVariants.{Run}
-use Rattle.dart_words.specs.Budget.{IsWithinLimits, budget_of, first_time, number_of, number_within, with_option}
+use Rattle.dart_words.specs.Budget.{IsWithinLimits, number_of, number_within}
+use Rattle.dart_words.specs.Options.{first_time, options_of, with_checked, with_option}
 use Rattle.dart_words.specs.Words.{Command, KeepsLimits, is_operand, nothing_given, run_reading, with_file}
 
 -- a number from 1 to the greatest
@@ -45,6 +46,10 @@ chosen : {A : Type 0} (P : A → Type 0) (b : Bool) (x y : Option A) → IfSome 
 chosen P true x y h k = h
 chosen P false x y h k = k
 
+-- `--checked` more
+checked_within : (given : Given) → AreWithin given → IfSome (with_checked given) AreWithin
+checked_within given h = chosen AreWithin given.checked None (Some (record given { checked = true })) tt (record { steps = h.steps; units = h.units })
+
 -- one option more
 option_within : (given : Given) (option number : List ℕ) → AreWithin given → IfSome (with_option given option number) AreWithin
 option_within given option number h =
@@ -56,7 +61,7 @@ usual_from_1 greatest usual None h is = h
 usual_from_1 greatest usual (Some n) h is = is
 
 -- a budget whose options are within the limits is
-budget_within : (given : Given) → AreWithin given → IsWithinLimits (budget_of given)
+budget_within : (given : Given) → AreWithin given → IsWithinLimits (options_of given).budget
 budget_within given h =
     let steps = usual_from_1 STEPS USUAL_STEPS given.steps (record { some = lit≤ tt; most = lit≤ tt }) h.steps in
     let units = usual_from_1 STORE_UNITS USUAL_STORE_UNITS given.units (record { some = lit≤ tt; most = lit≤ tt }) h.units in
@@ -72,8 +77,11 @@ more_keeps (Some given) words h keeps = keeps given h
 -- so are all that are read
 run_keeps : (given : Given) (words : List (List ℕ)) → AreWithin given → IfSome (run_reading given words) (λ c. KeepsLimits c.verb)
 run_keeps given [] h = tt
-run_keeps given (file ∷ []) h = file_keeps (Run (budget_of given)) file (budget_within given h)
-run_keeps given (option ∷ number ∷ words) h = more_keeps (with_option given option number) words (option_within given option number h) (λ more is. run_keeps more words is)
+run_keeps given (file ∷ []) h = file_keeps (Run (options_of given)) file (budget_within given h)
+run_keeps given (option ∷ next ∷ words) h =
+    chosen (λ (c : Command). KeepsLimits c.verb) (bytes_eq option (codes "--checked")) _ _
+    (more_keeps (with_checked given) (next ∷ words) (checked_within given h) (λ more is. run_keeps more (next ∷ words) is))
+    (more_keeps (with_option given option next) words (option_within given option next h) (λ more is. run_keeps more words is))
 
 -- what is read of the words behind `run` keeps the limits
 pub asked_keeps : {F : Type 0} (bytes : F → List ℕ) (words : List (List ℕ)) (result : Option (Verb × F)) → MatchOption result (run_reading nothing_given words ≡ None) (λ asked. run_reading nothing_given words ≡ Some (record { verb = asked.0; file = bytes asked.1 })) → IfSome result (λ asked. KeepsLimits asked.0)

@@ -1,12 +1,10 @@
--- What each isolate of a run may take, and the options that say it.
-use Rattle.std.specs.Prelude.{ℕ, ◌≤◌, nat_le, List, length, Bool, ◌&&◌, if◌then◌else◌, Option, Some, None, option_and_then, option_map, unwrap_or, codes}
+-- What each isolate of a run may take, and the numbers that say it.
+use Rattle.std.specs.Prelude.{ℕ, ◌≤◌, nat_le, List, length, Bool, ◌&&◌, if◌then◌else◌, Option, Some, None, option_and_then}
 use Rattle.std.specs.Char.{is_ascii_digit}
 use Rattle.std.specs.List.{list_all}
-use Rattle.std.specs.Str.{bytes_eq}
 use Rattle.std.specs.Str.Parse.{digits_value}
-use Rattle.dart_base.specs.declared.limit.TheConstants.{STEPS, STORE_UNITS, USUAL_STEPS, USUAL_STORE_UNITS}
+use Rattle.dart_base.specs.declared.limit.TheConstants.{STEPS, STORE_UNITS}
 use Rattle.dart_words.specs.declared.budget.Budget.{Budget}
-use Rattle.dart_words.specs.declared.budget.Given.{Given}
 
 -- one to ten digits
 abbrev pub is_numeral : List ℕ → Bool
@@ -20,24 +18,6 @@ number_of word = if is_numeral word then Some (digits_value 10 word) else None
 abbrev pub number_within : ℕ → List ℕ → Option ℕ
 number_within greatest word =
     option_and_then (λ number. if nat_le 1 number && nat_le number greatest then Some number else None) (number_of word)
-
--- the number of an option that was not given before
-abbrev pub first_time : Option ℕ → Option ℕ → Option ℕ
-first_time None number = number
-first_time (Some before) number = None
-
--- what options gave and this one gives, or none where it is no option, has no number within its limit or was given before
-abbrev pub with_option : Given → List ℕ → List ℕ → Option Given
-with_option given option number =
-    let steps = first_time given.steps (number_within STEPS number) in
-    let units = first_time given.units (number_within STORE_UNITS number) in
-    if bytes_eq option (codes "--steps") then option_map (λ n. record given { steps = Some n }) steps
-    else if bytes_eq option (codes "--units") then option_map (λ n. record given { units = Some n }) units
-    else None
-
--- the budget that options give, the usual one in what none gave
-abbrev pub budget_of : Given → Budget
-budget_of given = record { steps = unwrap_or given.steps USUAL_STEPS; units = unwrap_or given.units USUAL_STORE_UNITS }
 
 -- a budget of one step and one unit or more, and of no more than the product's limits
 pub record IsWithinLimits (budget : Budget) : Type 0 where

@@ -1,10 +1,11 @@
 -- What the words of a command line mean.
 use Rattle.std.specs.Prelude.{◌==◌, ℕ, List, [], ◌∷◌, Bool, false, not, if◌then◌else◌, Option, Some, None, option_and_then, ⊤, codes}
 use Rattle.std.specs.Str.{byte, bytes_eq}
-use Rattle.dart_words.specs.declared.budget.Given.{Given}
+use Rattle.dart_words.specs.declared.options.Given.{Given}
 use Rattle.dart_words.specs.declared.words.Verb.{Verb}
 use Rattle.dart_words.specs.declared.words.Verb.TheVariants.{Run, Erase}
-use Rattle.dart_words.specs.Budget.{IsWithinLimits, budget_of, with_option}
+use Rattle.dart_words.specs.Budget.{IsWithinLimits}
+use Rattle.dart_words.specs.Options.{options_of, with_checked, with_option}
 
 -- a command with its file
 pub record Command : Type 0 where
@@ -21,14 +22,16 @@ with_file verb file = if is_operand file then Some (record { verb = verb; file =
 
 -- no option
 abbrev pub nothing_given : Given
-nothing_given = record { steps = None; units = None }
+nothing_given = record { checked = false; steps = None; units = None }
 
 -- What the words ask that stand behind `run` and options that gave this: a file alone is run, and two words or more begin with
--- an option and its number.
+-- `--checked`, or with an option and its number.
 abbrev pub run_reading : Given → List (List ℕ) → Option Command
 run_reading given [] = None
-run_reading given (file ∷ []) = with_file (Run (budget_of given)) file
-run_reading given (option ∷ number ∷ words) = option_and_then (λ more. run_reading more words) (with_option given option number)
+run_reading given (file ∷ []) = with_file (Run (options_of given)) file
+run_reading given (option ∷ next ∷ words) = if bytes_eq option (codes "--checked")
+    then option_and_then (λ more. run_reading more (next ∷ words)) (with_checked given)
+    else option_and_then (λ more. run_reading more words) (with_option given option next)
 
 -- what the words behind `erase` ask
 abbrev pub erase_reading : List (List ℕ) → Option Command
@@ -45,5 +48,5 @@ reading (word ∷ words) = if bytes_eq word (codes "run") then run_reading nothi
 
 -- where the command is a run, its budget is within the limits
 abbrev pub KeepsLimits : Verb → Type 0
-KeepsLimits (Run budget) = IsWithinLimits budget
+KeepsLimits (Run options) = IsWithinLimits options.budget
 KeepsLimits Erase = ⊤

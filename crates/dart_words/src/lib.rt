@@ -2,6 +2,7 @@
 #![tactic(auto)]
 
 pub mod budget;
+pub mod options;
 #[cfg(test)]
 mod tests;
 pub mod words;

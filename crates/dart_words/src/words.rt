@@ -3,13 +3,13 @@ ghost use Rattle.std.specs.Prelude.{◌≡◌, map, MatchOption, IfSome, None, S
 ghost use Rattle.std.specs.String.{string_bytes};
 ghost use Rattle.dart_words.specs.Words.{KeepsLimits, erase_reading, is_operand, nothing_given, reading, run_reading};
 
-use crate::budget::{Budget, Given};
+use crate::options::{Given, Options};
 
 /// What a command does with its file. Another one is also a case of `reading` in specs/Words.antt.
 #[derive(Clone, Copy, Debug, PartialEq, Eq)]
 pub enum Verb {
-    /// Runs the program that it is, each isolate within this budget.
-    Run(Budget),
+    /// Runs the program that it is, as these options ask.
+    Run(Options),
     /// Writes it without its annotations.
     Erase,
 }
@@ -28,16 +28,22 @@ fn run_reading(words: &[String]) -> Option<(Verb, &String)>
         (λ asked. read ≡ Some (record { verb = asked.0; file = string_bytes asked.1.now })) }
 {
     let mut given = Given {
+        checked: false,
         steps: None,
         units: None,
     };
     let mut rest = words;
     while let [option, number, more @ ..] = rest {
-        given = given.with_option(option.as_str(), number.as_str())?;
-        rest = more;
+        if option.as_str() == "--checked" {
+            given = given.with_checked()?;
+            rest = &rest[1..];
+        } else {
+            given = given.with_option(option.as_str(), number.as_str())?;
+            rest = more;
+        }
     }
     match rest {
-        [file] if is_operand(file) => Some((Verb::Run(given.budget()), file)),
+        [file] if is_operand(file) => Some((Verb::Run(given.options()), file)),
         _ => None,
     }
 }
@@ -55,8 +61,8 @@ fn erase_reading(words: &[String]) -> Option<(Verb, &String)>
 }
 
 /// What the words ask, and of which file, or None where they are no command: `run`, options and a file, or `erase` and a
-/// file. An option is `--steps` or `--units` and, as a word of its own, its number of one to ten digits; each is given once at
-/// most.
+/// file. An option is `--checked`, or `--steps` or `--units` and, as a word of its own, its number of one to ten digits; each is
+/// given once at most.
 pub fn command(words: &[String]) -> Option<(Verb, &String)>
     ensures read { let read = reading (map string_bytes words.now) in
         MatchOption result (read ≡ None)
