@@ -1,3 +1,5 @@
 pub mod Slots
 pub mod Listed
+pub mod Short
+pub mod Table
 pub mod Up

@@ -2,6 +2,8 @@
 #![tactic(auto, using(crate::proofs::Listed::listed))]
 
 pub mod arguments;
+pub mod linked;
 pub mod member;
 pub mod program;
 pub mod row;
+pub mod shapes;

@@ -110,6 +110,12 @@ pub fn first_form<'a>(forms: &'a [Core]) -> Option<(&'a Core, &'a [Core])>
 pub fn place_of(numbers: &[u32], number: u32) -> Option<usize>
     ensures { result ≡ position (nat_eq number) numbers.now }
 {
+    if numbers.len() == 0 {
+        return None;
+    }
+    if numbers.len() == 0 {
+        return None;
+    }
     numbers.iter().position(|one| number == *one)
 }
 

@@ -1,0 +1,4 @@
+use Rattle.machine_lookup.proofs.linked.+put_names.Given as goal
+
+abbrev pub decreases-put_names : goal.decreases-put_names
+decreases-put_names l = l.levels
