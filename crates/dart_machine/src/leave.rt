@@ -22,11 +22,12 @@ use machine_form::operations::second_operand;
 use machine_form::rows::next;
 use machine_form::switches::{choose_case, leave_case};
 use machine_frame::around::{Around, Fault};
-use machine_frame::moves::{answer, bind_let, choose, go_on};
+use machine_frame::moves::{answer, bind_let, choose};
 use machine_frame::run::{Control, Exit, Frame, Run};
 use machine_frame::stacks::push_operand;
 use machine_lookup::row::cut;
 use machine_loop::loops::{begin_turn, decided, update};
+use machine_loop::statements::go_on;
 use machine_value::verdicts::{as_type, is_type};
 
 /// Leaves a form to the frame that waited for it.
@@ -200,6 +201,7 @@ fn next_operand<'a>(
     rest: &'a [Core],
     count: u32,
 ) -> Result<Control<'a>, Fault>
+    requires valid { IsValid a.program.now.classes }
     ensures meaning { IfOk result (λ c. going a.entry run.new c ≡ does_row a.entry run.old count
         (λ w. on_answers (done w (v.core one.now)) (evals (joins (v.core one.now)) (forms_of rest.now) w) (last_of count run.old.operands.items ++ run.old.answer ∷ []))) }
     ensures less { IfOk result (λ c. work run.new c < room run.old + 10) }

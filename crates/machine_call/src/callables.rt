@@ -1,6 +1,7 @@
 // Calls of values: functions, closures, methods taken off objects, and objects with a member `call` (ECMA-408, 16.14.4 Function
 // Expression Invocation).
 ghost use Rattle.std.specs.Prelude.{◌≡◌, ◌<◌, ◌+◌, Some, None, IfOk};
+ghost use Rattle.dart_ir.specs.Classes.{IsValid};
 ghost use Rattle.machine_call.specs.Invocable.{callable_as};
 ghost use Rattle.evaluation.specs.Invocation as call;
 ghost use Rattle.machine_frame.specs.Frames.{going, does_row, room, work, given_of, callee_of};
@@ -18,7 +19,6 @@ use machine_frame::objects::class_of;
 use machine_frame::run::{Called, Control, Frame, Passed, Run};
 use machine_frame::stacks::push_frame;
 use machine_lookup::arguments::fits;
-use machine_lookup::member::member;
 use machine_lookup::program::{member_function, member_owner};
 use machine_lookup::row::{last_of, past_first};
 
@@ -42,6 +42,7 @@ pub fn apply<'a>(
     callee: Value,
     passed: Passed<'a>,
 ) -> Result<Control<'a>, Fault>
+    requires valid { IsValid a.program.now.classes }
     ensures meaning { IfOk result (λ c. going a.entry run.new c ≡ does_row a.entry run.old passed.entry.count (λ w. call.apply w at callee (given_of passed.entry run.old.operands.items))) }
     ensures less { IfOk result (λ c. work run.new c < room run.old + 9) }
 {
@@ -75,6 +76,7 @@ fn applied<'a>(
     found: Invocable,
     passed: Passed<'a>,
 ) -> Result<Control<'a>, Fault>
+    requires valid { IsValid a.program.now.classes }
     ensures meaning { IfOk result (λ c. going a.entry run.new c ≡ does_row a.entry run.old passed.entry.count (λ w. call.applied w at callee (given_of passed.entry run.old.operands.items)
         (λ u. call.apply w at u (given_of passed.entry run.old.operands.items)) (callable_as found))) }
     ensures less { IfOk result (λ c. work run.new c < room run.old + 9) }
@@ -92,7 +94,7 @@ fn applied<'a>(
         Invocable::Method(m, receiver) => {
             let called = Called {
                 this: receiver,
-                owner: member_owner(a.program, m),
+                owner: member_owner(a.program.core(), m),
                 closure: Value::Null,
             };
             function_call(
@@ -100,7 +102,7 @@ fn applied<'a>(
                 a,
                 at,
                 callee,
-                member_function(a.program, m),
+                member_function(a.program.core(), m),
                 called,
                 passed,
             )
@@ -120,11 +122,12 @@ fn function_call<'a>(
     callee: Called,
     passed: Passed<'a>,
 ) -> Result<Control<'a>, Fault>
+    requires valid { IsValid a.program.now.classes }
     ensures meaning { IfOk result (λ c. going a.entry run.new c ≡ does_row a.entry run.old passed.entry.count (λ w. call.function_call w at value f (callee_of callee) (given_of passed.entry run.old.operands.items))) }
     ensures less { IfOk result (λ c. work run.new c < room run.old + 6) }
 {
     let values = past_first(last_of(run.operands.as_slice(), passed.count), passed.skip);
-    if fits(a.program, f, values, passed.names) {
+    if fits(a.program.core(), f, values, passed.names) {
         return called(run, a, at, f, callee, passed);
     }
     let class = class_of(run, a, value);
@@ -134,7 +137,7 @@ fn function_call<'a>(
         at,
         class,
         Role::Method,
-        a.known.call.0,
+        a.setup.known.call.0,
         value,
         passed,
     )
@@ -149,14 +152,15 @@ fn object_call<'a>(
     value: Value,
     passed: Passed<'a>,
 ) -> Result<Control<'a>, Fault>
+    requires valid { IsValid a.program.now.classes }
     ensures meaning { IfOk result (λ c. going a.entry run.new c ≡ does_row a.entry run.old passed.entry.count (λ w. call.applied w at value (given_of passed.entry run.old.operands.items)
         (λ u. call.apply w at u (given_of passed.entry run.old.operands.items)) call.an_object)) }
     ensures less { IfOk result (λ c. work run.new c < room run.old + 9) }
 {
     let class = class_of(run, a, value);
-    let name = a.known.call.0;
-    let method = member(a.program, class, name, Role::Method);
-    let getter = member(a.program, class, name, Role::Getter);
+    let name = a.setup.known.call.0;
+    let method = a.program.member(class, name, Role::Method);
+    let getter = a.program.member(class, name, Role::Getter);
     match method {
         Some(m) => fitting(run, a, at, class, Role::Method, name, value, m, passed),
         None => match getter {
@@ -175,11 +179,12 @@ fn call_getter<'a>(
     m: u32,
     passed: Passed<'a>,
 ) -> Result<Control<'a>, Fault>
+    requires valid { IsValid a.program.now.classes }
     ensures meaning { IfOk result (λ c. going a.entry run.new c ≡ does_row a.entry run.old passed.entry.count (λ w. call.object_call w at value (given_of passed.entry run.old.operands.items)
         (λ u. call.apply w at u (given_of passed.entry run.old.operands.items)) None (Some m))) }
     ensures less { IfOk result (λ c. work run.new c < room run.old + 9) }
 {
-    match function_with_body(a.program, member_function(a.program, m)) {
+    match function_with_body(a.program.core(), member_function(a.program.core(), m)) {
         None => {
             let class = class_of(run, a, value);
             missing_from(
@@ -188,7 +193,7 @@ fn call_getter<'a>(
                 at,
                 class,
                 Role::Method,
-                a.known.call.0,
+                a.setup.known.call.0,
                 value,
                 passed,
             )

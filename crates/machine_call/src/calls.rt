@@ -1,5 +1,6 @@
 // Bodies that are entered, by functions and by members that were found.
 ghost use Rattle.std.specs.Prelude.{◌≡◌, ◌≢◌, ◌<◌, ◌+◌, ◌-◌, [], map, Some, true, false, IfOk, MatchOption};
+ghost use Rattle.dart_ir.specs.Classes.{IsValid};
 ghost use Rattle.dart_ir.specs.declared.value.Value.TheVariants.{Null};
 ghost use Rattle.dart_ir.specs.declared.kind.ThrowKind.TheVariants.{NoSuchMethodError};
 ghost use Rattle.dart_ir.specs.Ty.{ty};
@@ -76,6 +77,7 @@ pub fn called<'a>(
     callee: Called,
     passed: Passed<'a>,
 ) -> Result<Control<'a>, Fault>
+    requires valid { IsValid a.program.now.classes }
     ensures meaning { IfOk result (λ c. going a.entry run.new c ≡ does_row a.entry run.old passed.entry.count (λ w. call.called w at f (callee_of callee) (given_of passed.entry run.old.operands.items))) }
     ensures less { IfOk result (λ c. work run.new c < room run.old + 6) }
 {
@@ -83,7 +85,7 @@ pub fn called<'a>(
         cut(&mut run.operands, passed.count);
         return Ok(Control::Leave(Exit::Over(Limit::OutOfDepth)));
     }
-    match function_to_enter(a.program, f) {
+    match function_to_enter(a.program.core(), f) {
         None => Ok(null_of_call(run, a, passed.count)),
         Some(function) => enter_body(run, a, at, f, function, callee, Vec::new(run.alloc), passed),
     }
@@ -99,6 +101,7 @@ pub fn called_for<'a>(
     types: Types,
     passed: Passed<'a>,
 ) -> Result<Control<'a>, Fault>
+    requires valid { IsValid a.program.now.classes }
     ensures meaning { IfOk result (λ c. going a.entry run.new c ≡ does_row a.entry run.old passed.entry.count (λ w. call.called w at f (record { this = Null; owner = 0; closure = Null; types = map ty types.items }) (given_of passed.entry run.old.operands.items))) }
     ensures less { IfOk result (λ c. work run.new c < room run.old + 6) }
 {
@@ -106,7 +109,7 @@ pub fn called_for<'a>(
         cut(&mut run.operands, passed.count);
         return Ok(Control::Leave(Exit::Over(Limit::OutOfDepth)));
     }
-    match function_to_enter(a.program, f) {
+    match function_to_enter(a.program.core(), f) {
         None => Ok(null_of_call(run, a, passed.count)),
         Some(function) => enter_body(run, a, at, f, function, PLAIN, types, passed),
     }
@@ -157,6 +160,7 @@ fn enter_body<'a>(
     types: Types,
     passed: Passed<'a>,
 ) -> Result<Control<'a>, Fault>
+    requires valid { IsValid a.program.now.classes }
     requires depth { run.old.depth ≢ 0 }
     requires entered { answers_null (Some (p.function function.now)) ≡ false }
     ensures meaning { IfOk result (λ c. going a.entry run.new c ≡ ending_row a.entry run.old passed.entry.count
@@ -197,7 +201,8 @@ fn begin_body<'a>(
     function: &'a Function,
     passed: Passed<'a>,
 ) -> Result<Control<'a>, Fault>
-    requires { answers_null (Some (p.function function.now)) ≡ false }
+    requires valid { IsValid a.program.now.classes }
+    requires entered { answers_null (Some (p.function function.now)) ≡ false }
     ensures meaning { IfOk result (λ c. going a.entry run.new c ≡ does a.entry run.old (λ w. binding w (given_of passed.entry run.old.operands.items) (map p.parameter function.now.parameters.items) 0 (part (v.part function.now.body) w Null))) }
     ensures less { IfOk result (λ c. work run.new c < room run.old + 4) }
 {
@@ -220,15 +225,23 @@ pub fn member_call<'a>(
     this: Value,
     passed: Passed<'a>,
 ) -> Result<Control<'a>, Fault>
+    requires valid { IsValid a.program.now.classes }
     ensures meaning { IfOk result (λ c. going a.entry run.new c ≡ does_row a.entry run.old passed.entry.count (λ w. call.member_call w at m this (given_of passed.entry run.old.operands.items))) }
     ensures less { IfOk result (λ c. work run.new c < room run.old + 6) }
 {
     let callee = Called {
         this,
-        owner: member_owner(a.program, m),
+        owner: member_owner(a.program.core(), m),
         closure: Value::Null,
     };
-    called(run, a, at, member_function(a.program, m), callee, passed)
+    called(
+        run,
+        a,
+        at,
+        member_function(a.program.core(), m),
+        callee,
+        passed,
+    )
 }
 
 /// A getter that was found, on its receiver.
@@ -240,6 +253,7 @@ pub fn getter_call<'a>(
     m: u32,
     this: Value,
 ) -> Result<Control<'a>, Fault>
+    requires valid { IsValid a.program.now.classes }
     ensures meaning { IfOk result (λ c. going a.entry run.new c ≡ does a.entry run.old (λ w. call.member_call w at m this nothing_given)) }
     ensures less { IfOk result (λ c. work run.new c < room run.old + 6) }
 {
@@ -255,11 +269,12 @@ pub fn static_call<'a>(
     f: u32,
     passed: Passed<'a>,
 ) -> Result<Control<'a>, Fault>
+    requires valid { IsValid a.program.now.classes }
     ensures meaning { IfOk result (λ c. going a.entry run.new c ≡ does_row a.entry run.old passed.entry.count (λ w. call.static_call w at f (given_of passed.entry run.old.operands.items))) }
     ensures less { IfOk result (λ c. work run.new c < room run.old + 6) }
 {
     let values = past_first(last_of(run.operands.as_slice(), passed.count), passed.skip);
-    if !fits(a.program, f, values, passed.names) {
+    if !fits(a.program.core(), f, values, passed.names) {
         return misfit(run, a, at, f, passed);
     }
     called(run, a, at, f, PLAIN, passed)
@@ -282,7 +297,7 @@ pub fn misfit<'a>(
         a,
         at,
         ThrowKind::NoSuchMethodError,
-        function_name(a.program, f),
+        function_name(a.program.core(), f),
         false,
     )
 }
@@ -313,6 +328,7 @@ pub fn getter_body<'a>(
     function: &'a Function,
     this: Value,
 ) -> Result<Control<'a>, Fault>
+    requires valid { IsValid a.program.now.classes }
     requires found { function_at (p.program a.program.now) (member_function (member_at (p.program a.program.now) m)) ≡ Some (p.function function.now) }
     requires entered { answers_null (Some (p.function function.now)) ≡ false }
     ensures meaning { IfOk result (λ c. going a.entry run.new c ≡ does a.entry run.old (λ w. call.member_call w at m this nothing_given)) }
@@ -323,14 +339,14 @@ pub fn getter_body<'a>(
     }
     let callee = Called {
         this,
-        owner: member_owner(a.program, m),
+        owner: member_owner(a.program.core(), m),
         closure: Value::Null,
     };
     enter_body(
         run,
         a,
         at,
-        member_function(a.program, m),
+        member_function(a.program.core(), m),
         function,
         callee,
         Vec::new(run.alloc),

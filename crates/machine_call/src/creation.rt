@@ -1,5 +1,6 @@
 // New objects and constructors (ECMA-408, 10.6 Constructors, 16.12 Instance Creation).
 ghost use Rattle.std.specs.Prelude.{◌≡◌, ◌<◌, ◌+◌, map, IfOk};
+ghost use Rattle.dart_ir.specs.Classes.{IsValid};
 ghost use Rattle.dart_ir.specs.Ty.{ty};
 ghost use Rattle.evaluation.specs.Creation as creation;
 ghost use Rattle.machine_frame.specs.Frames.{going, does_row, room, work, given_of};
@@ -33,6 +34,7 @@ pub fn create<'a>(
     types: &'a [TypeRef],
     passed: Passed<'a>,
 ) -> Result<Control<'a>, Fault>
+    requires valid { IsValid a.program.now.classes }
     ensures meaning { IfOk result (λ c. going a.entry run.new c ≡ does_row a.entry run.old passed.entry.count (λ w. creation.new w at class f (map ty types.now) (given_of passed.entry run.old.operands.items))) }
     ensures less { IfOk result (λ c. work run.new c < room run.old + 10) }
 {
@@ -40,10 +42,10 @@ pub fn create<'a>(
         cut(&mut run.operands, passed.count);
         return Ok(Control::Leave(Exit::Over(Limit::TypeLimit)));
     };
-    if is_factory(a.program, f) {
+    if is_factory(a.program.core(), f) {
         return factory_call(run, a, at, f, args, passed);
     }
-    if is_abstract(a.program, class) {
+    if is_abstract(a.program.core(), class) {
         cut(&mut run.operands, passed.count);
         return throw_new(run, a, at, ThrowKind::AbstractClassInstantiationError);
     }
@@ -59,11 +61,12 @@ fn factory_call<'a>(
     types: Types,
     passed: Passed<'a>,
 ) -> Result<Control<'a>, Fault>
+    requires valid { IsValid a.program.now.classes }
     ensures meaning { IfOk result (λ c. going a.entry run.new c ≡ does_row a.entry run.old passed.entry.count (λ w. creation.factory_call w at f (map ty types.items) (given_of passed.entry run.old.operands.items))) }
     ensures less { IfOk result (λ c. work run.new c < room run.old + 6) }
 {
     let values = past_first(last_of(run.operands.as_slice(), passed.count), passed.skip);
-    if !fits(a.program, f, values, passed.names) {
+    if !fits(a.program.core(), f, values, passed.names) {
         return misfit(run, a, at, f, passed);
     }
     called_for(run, a, at, f, types, passed)
@@ -79,11 +82,12 @@ fn instantiate<'a>(
     types: Types,
     passed: Passed<'a>,
 ) -> Result<Control<'a>, Fault>
+    requires valid { IsValid a.program.now.classes }
     ensures meaning { IfOk result (λ c. going a.entry run.new c ≡ does_row a.entry run.old passed.entry.count (λ w. creation.instantiate w at class f (given_of passed.entry run.old.operands.items) (map ty types.items))) }
     ensures less { IfOk result (λ c. work run.new c < room run.old + 10) }
 {
     let mut fields = Vec::new(run.alloc);
-    push_nulls(&mut fields, field_count(a.program, class))?;
+    push_nulls(&mut fields, field_count(a.program.core(), class))?;
     let object = Object::Instance {
         class: ClassId(class),
         args: types,
@@ -109,6 +113,7 @@ pub fn construct<'a>(
     f: u32,
     passed: Passed<'a>,
 ) -> Result<Control<'a>, Fault>
+    requires valid { IsValid a.program.now.classes }
     ensures meaning { IfOk result (λ c. going a.entry run.new c ≡ does_row a.entry run.old passed.entry.count (λ w. creation.construct w at f (given_of passed.entry run.old.operands.items))) }
     ensures less { IfOk result (λ c. work run.new c < room run.old + 6) }
 {
@@ -124,16 +129,17 @@ pub fn construct_on<'a>(
     this: Value,
     passed: Passed<'a>,
 ) -> Result<Control<'a>, Fault>
+    requires valid { IsValid a.program.now.classes }
     ensures meaning { IfOk result (λ c. going a.entry run.new c ≡ does_row a.entry run.old passed.entry.count (λ w. creation.construct_on w at f this (given_of passed.entry run.old.operands.items))) }
     ensures less { IfOk result (λ c. work run.new c < room run.old + 6) }
 {
     let values = past_first(last_of(run.operands.as_slice(), passed.count), passed.skip);
-    if !fits(a.program, f, values, passed.names) {
+    if !fits(a.program.core(), f, values, passed.names) {
         return misfit(run, a, at, f, passed);
     }
     let callee = Called {
         this,
-        owner: class_or_first(class_of_function(a.program, f)),
+        owner: class_or_first(class_of_function(a.program.core(), f)),
         closure: Value::Null,
     };
     called(run, a, at, f, callee, passed)

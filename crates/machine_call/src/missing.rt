@@ -1,5 +1,6 @@
 // noSuchMethod (ECMA-408, 16.17.1 Method Lookup).
 ghost use Rattle.std.specs.Prelude.{pos, ◌≡◌, ◌<◌, ◌+◌, ◌∷◌, [], Some, map, IfOk};
+ghost use Rattle.dart_ir.specs.Classes.{IsValid};
 ghost use Rattle.dart_ir.specs.Ty.{ty, dynamic};
 ghost use Rattle.core_program.specs.ProgramView as p;
 ghost use Rattle.core_program.specs.View as v;
@@ -27,7 +28,6 @@ use machine_frame::objects::put_object;
 use machine_frame::run::{Control, Exit, Limit, Passed, Run};
 use machine_frame::stacks::push_operand;
 use machine_lookup::arguments::fits;
-use machine_lookup::member::member;
 use machine_lookup::program::member_function;
 use machine_lookup::row::{cut, last_of, past_first};
 use machine_value::errors::put_name;
@@ -52,6 +52,7 @@ pub fn missing_from<'a>(
     this: Value,
     passed: Passed<'a>,
 ) -> Result<Control<'a>, Fault>
+    requires valid { IsValid a.program.now.classes }
     ensures meaning { IfOk result (λ c. going a.entry run.new c ≡ does_row a.entry run.old passed.entry.count (λ w. call.missing_from w at (Some class) role name this (given_of passed.entry run.old.operands.items))) }
     ensures less { IfOk result (λ c. work run.new c < room run.old + 6) }
 {
@@ -71,6 +72,7 @@ fn tell_again<'a>(
     this: Value,
     first: Value,
 ) -> Result<Control<'a>, Fault>
+    requires valid { IsValid a.program.now.classes }
     ensures meaning { IfOk result (λ c. going a.entry run.new c ≡ does a.entry run.old (missing_alone a.entry at class this first)) }
     ensures less { IfOk result (λ c. work run.new c < room run.old + 6) }
 {
@@ -95,6 +97,7 @@ fn tell_alone<'a>(
     this: Value,
     one: Value,
 ) -> Result<Told<'a>, Fault>
+    requires valid { IsValid a.program.now.classes }
     ensures meaning { IfOk result (λ t. told_as a.entry at class this run.new t ≡ does a.entry run.old (missing_alone a.entry at class this one)) }
     ensures nearer { IfOk result (λ t. IsNearer run.old run.new t) }
 {
@@ -106,7 +109,7 @@ fn tell_alone<'a>(
         at,
         class,
         Role::Method,
-        a.known.no_such_method.0,
+        a.setup.known.no_such_method.0,
         this,
         passed,
     )?;
@@ -124,6 +127,7 @@ fn tell<'a>(
     this: Value,
     passed: Passed<'a>,
 ) -> Result<Told<'a>, Fault>
+    requires valid { IsValid a.program.now.classes }
     ensures meaning { IfOk result (λ t. told_as a.entry at class this run.new t ≡ does_row a.entry run.old passed.entry.count (λ w. call.missing_from w at (Some class) role name this (given_of passed.entry run.old.operands.items))) }
     ensures nearer { IfOk result (λ t. IsNearer run.old run.new t) }
 {
@@ -132,10 +136,13 @@ fn tell<'a>(
     let Some(one) = made else {
         return Ok(Told::Goes(Control::Leave(Exit::Over(Limit::OutOfObjects))));
     };
-    let Some(m) = member(a.program, class, a.known.no_such_method.0, Role::Method) else {
+    let Some(m) = a
+        .program
+        .member(class, a.setup.known.no_such_method.0, Role::Method)
+    else {
         return Ok(Told::Goes(answer(run, a, Value::Null)));
     };
-    if !takes_alone(a.program, m, one) {
+    if !takes_alone(a.program.core(), m, one) {
         return Ok(Told::Again(one));
     }
     let control = call_alone(run, a, at, m, this, one)?;
@@ -159,6 +166,7 @@ fn call_alone<'a>(
     this: Value,
     one: Value,
 ) -> Result<Control<'a>, Fault>
+    requires valid { IsValid a.program.now.classes }
     ensures meaning { IfOk result (λ c. going a.entry run.new c ≡ does a.entry run.old (λ w. call.member_call w at m this (alone one))) }
     ensures less { IfOk result (λ c. work run.new c < room run.old + 6) }
 {
@@ -273,7 +281,7 @@ fn put_invocation(
     put_object(
         run,
         Object::Instance {
-            class: a.known.invocation_class,
+            class: a.setup.known.invocation_class,
             args: Vec::new(run.alloc),
             fields,
         },

@@ -1,6 +1,7 @@
 // Members of objects: methods, getters, setters, `==` and `super` (ECMA-408, 16.17 Method Invocation, 16.18 Property Extraction,
 // 16.19 Assignment, 16.24 Equality).
 ghost use Rattle.std.specs.Prelude.{◌≡◌, ◌<◌, ◌+◌, Some, None, IfOk};
+ghost use Rattle.dart_ir.specs.Classes.{IsValid};
 ghost use Rattle.core_program.specs.ProgramView as p;
 ghost use Rattle.evaluation.specs.Classes.{member};
 ghost use Rattle.evaluation.specs.Evaluation.{super, superclass_of, class_of_source, only};
@@ -23,7 +24,7 @@ use machine_frame::objects::class_of;
 use machine_frame::run::{Control, Frame, Passed, Run, Source};
 use machine_frame::stacks::{push_frame, push_operand};
 use machine_lookup::arguments::fits;
-use machine_lookup::member::{member, superclass};
+use machine_lookup::member::superclass;
 use machine_lookup::program::{class_of_function, member_function};
 use machine_lookup::row::{cut, last_of, past_first, value_at};
 use machine_value::objects::place;
@@ -41,13 +42,14 @@ pub fn fitting<'a>(
     m: u32,
     passed: Passed<'a>,
 ) -> Result<Control<'a>, Fault>
+    requires valid { IsValid a.program.now.classes }
     ensures meaning { IfOk result (λ c. going a.entry run.new c ≡ does_row a.entry run.old passed.entry.count (λ w. call.fitting w at (Some class) role name this (given_of passed.entry run.old.operands.items) m)) }
     ensures less { IfOk result (λ c. work run.new c < room run.old + 6) }
 {
     let values = past_first(last_of(run.operands.as_slice(), passed.count), passed.skip);
     if fits(
-        a.program,
-        member_function(a.program, m),
+        a.program.core(),
+        member_function(a.program.core(), m),
         values,
         passed.names,
     ) {
@@ -67,10 +69,11 @@ pub fn send_from<'a>(
     this: Value,
     passed: Passed<'a>,
 ) -> Result<Control<'a>, Fault>
+    requires valid { IsValid a.program.now.classes }
     ensures meaning { IfOk result (λ c. going a.entry run.new c ≡ does_row a.entry run.old passed.entry.count (λ w. call.send_from w at (Some class) name this (given_of passed.entry run.old.operands.items))) }
     ensures less { IfOk result (λ c. work run.new c < room run.old + 10) }
 {
-    let method = member(a.program, class, name, Role::Method);
+    let method = a.program.member(class, name, Role::Method);
     match method {
         Some(m) => fitting(run, a, at, class, Role::Method, name, this, m, passed),
         None => send_getter(run, a, at, class, name, this, passed),
@@ -87,10 +90,11 @@ fn send_getter<'a>(
     this: Value,
     passed: Passed<'a>,
 ) -> Result<Control<'a>, Fault>
+    requires valid { IsValid a.program.now.classes }
     ensures meaning { IfOk result (λ c. going a.entry run.new c ≡ does_row a.entry run.old passed.entry.count (λ w. call.sent w at (Some class) name this (given_of passed.entry run.old.operands.items) None (member (p.program a.entry.program.now) (Some class) name Role.Getter))) }
     ensures less { IfOk result (λ c. work run.new c < room run.old + 10) }
 {
-    match member(a.program, class, name, Role::Getter) {
+    match a.program.member(class, name, Role::Getter) {
         None => missing_from(run, a, at, class, Role::Method, name, this, passed),
         Some(m) => {
             push_frame(run, Frame::Applying(at, passed))?;
@@ -109,6 +113,7 @@ pub fn send<'a>(
     this: Value,
     passed: Passed<'a>,
 ) -> Result<Control<'a>, Fault>
+    requires valid { IsValid a.program.now.classes }
     ensures meaning { IfOk result (λ c. going a.entry run.new c ≡ does_row a.entry run.old passed.entry.count (λ w. call.send w at name this (given_of passed.entry run.old.operands.items))) }
     ensures less { IfOk result (λ c. work run.new c < room run.old + 10) }
 {
@@ -125,10 +130,11 @@ pub fn get_from<'a>(
     name: u32,
     this: Value,
 ) -> Result<Control<'a>, Fault>
+    requires valid { IsValid a.program.now.classes }
     ensures meaning { IfOk result (λ c. going a.entry run.new c ≡ does a.entry run.old (λ w. call.get_from w at (Some class) name this)) }
     ensures less { IfOk result (λ c. work run.new c < room run.old + 6) }
 {
-    if let Some(m) = member(a.program, class, name, Role::Method) {
+    if let Some(m) = a.program.member(class, name, Role::Method) {
         return place(
             run,
             a,
@@ -138,7 +144,7 @@ pub fn get_from<'a>(
             },
         );
     }
-    match member(a.program, class, name, Role::Getter) {
+    match a.program.member(class, name, Role::Getter) {
         None => missing_from(run, a, at, class, Role::Getter, name, this, no_operands()),
         Some(m) => getter_call(run, a, at, m, this),
     }
@@ -155,13 +161,14 @@ pub fn set_from<'a>(
     this: Value,
     value: Value,
 ) -> Result<Control<'a>, Fault>
+    requires valid { IsValid a.program.now.classes }
     ensures meaning { IfOk result (λ c. going a.entry run.new c ≡ does a.entry run.old (λ w. call.set_from w at (Some class) name this value)) }
     ensures less { IfOk result (λ c. work run.new c < room run.old + 10) }
 {
     let passed = last_operand();
     push_frame(run, Frame::Answering(value))?;
     push_operand(run, value)?;
-    match member(a.program, class, name, Role::Setter) {
+    match a.program.member(class, name, Role::Setter) {
         Some(m) => fitting(run, a, at, class, Role::Setter, name, this, m, passed),
         None => missing_from(run, a, at, class, Role::Setter, name, this, passed),
     }
@@ -176,6 +183,7 @@ pub fn equal<'a>(
     first: Value,
     second: Value,
 ) -> Result<Control<'a>, Fault>
+    requires valid { IsValid a.program.now.classes }
     ensures meaning { IfOk result (λ c. going a.entry run.new c ≡ does a.entry run.old (λ w. call.equal w at first second)) }
     ensures less { IfOk result (λ c. work run.new c < room run.old + 10) }
 {
@@ -210,12 +218,13 @@ fn equal_by_call<'a>(
     first: Value,
     second: Value,
 ) -> Result<Control<'a>, Fault>
+    requires valid { IsValid a.program.now.classes }
     ensures meaning { IfOk result (λ c. going a.entry run.new c ≡ does a.entry run.old (λ w. call.send w at w.setting.known.equals first (alone second))) }
     ensures less { IfOk result (λ c. work run.new c < room run.old + 10) }
 {
     let passed = last_operand();
     push_operand(run, second)?;
-    send(run, a, at, a.known.equals.0, first, passed)
+    send(run, a, at, a.setup.known.equals.0, first, passed)
 }
 
 /// A member looked up from the superclass, on `this`.
@@ -228,6 +237,7 @@ pub fn super_member<'a>(
     name: u32,
     passed: Passed<'a>,
 ) -> Result<Control<'a>, Fault>
+    requires valid { IsValid a.program.now.classes }
     ensures meaning { IfOk result (λ c. going a.entry run.new c ≡ does_row a.entry run.old passed.entry.count (λ w. super w at role name (given_of passed.entry run.old.operands.items))) }
     ensures less { IfOk result (λ c. work run.new c < room run.old + 10) }
 {
@@ -253,9 +263,9 @@ fn superclass_here(run: &Run, a: Around) -> Option<u32>
 {
     match run.body.source {
         Source::Initialiser(_) => None,
-        Source::Function(f) => match class_of_function(a.program, f) {
+        Source::Function(f) => match class_of_function(a.program.core(), f) {
             None => None,
-            Some(class) => superclass(a.program, class),
+            Some(class) => superclass(a.program.core(), class),
         },
     }
 }

@@ -258,7 +258,7 @@ fn make_trace(run: &mut Run, a: Around, trace: Option<u32>) -> Result<Option<Val
         Some(_) => put_object(
             run,
             Object::Instance {
-                class: a.known.trace_class,
+                class: a.setup.known.trace_class,
                 args: Vec::new(run.alloc),
                 fields: Values::new(run.alloc),
             },

@@ -6,3 +6,4 @@ pub mod Received
 pub mod Rowed
 pub mod Done
 pub mod Switched
+pub mod Stored

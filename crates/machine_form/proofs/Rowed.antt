@@ -39,25 +39,41 @@ module _ (a : Around) (r : Run) (one : Bor Core) (count : ℕ) where
       ∙ ap (λ (o : Outcome). ending_row a r count (on_answer (λ x. on_answers (done w (v.core one.now)) (evals (joins (v.core one.now)) (forms_of rest.now) w) (last_of count r.operands.items ++ x ∷ [])) o)) (sym same)
       ∙ ap (λ (l : List Core). does_row a r count (row_of l)) (sym e)
 
-  -- the next one is answered at once
-  pub row_goes : (m : Run) (forms : List Core) (first : Core) (rest : Bor (List Core)) (value : Value) (left more : ℕ) → forms ≡ first ∷ rest.now → more ≡ count + 1
-      → m.operands.items ≡ r.operands.items ++ value ∷ [] → m ≡ record r { left = left; operands = m.operands }
-      → mute (piece (joins (v.core one.now)) (constant_of (form_of (v.core first))) (eval (v.core first) (world_in a r.depth)) (seen r)) ≡ mute (ends (answer value) (record (seen r) { left = left }))
-      → does_row a m more (λ w. on_answers (done w (v.core one.now)) (evals (joins (v.core one.now)) (forms_of rest.now) w) (last_of more m.operands.items)) ≡ does_row a r count (row_of forms)
-  row_goes m forms first rest value left more e next pushed stays same =
-      let w = world_in a r.depth in
-      let go : List Value → Meaning = on_answers (done w (v.core one.now)) (evals (joins (v.core one.now)) (forms_of rest.now) w) in
-      let st : State = record (seen r) { left = left } in
-      ap (λ (q : Run). mute (resume a (record (below_of q) { operands = but_last more m.operands.items }) q.frames.items
-      (on_answers (done (world_in a q.depth) (v.core one.now)) (evals (joins (v.core one.now)) (forms_of rest.now) (world_in a q.depth)) (last_of more m.operands.items) (seen q)))) stays
-      ∙ ap (λ (n : ℕ). mute (resume a (record (below_of r) { operands = but_last n m.operands.items }) r.frames.items (go (last_of n m.operands.items) st))) next
-      ∙ ap (λ (l : List Value). mute (resume a (record (below_of r) { operands = but_last (count + 1) l }) r.frames.items (go (last_of (count + 1) l) st))) pushed
-      ∙ ap (λ (l : List Value). mute (resume a (record (below_of r) { operands = l }) r.frames.items (go (last_of (count + 1) (r.operands.items ++ value ∷ [])) st))) (but_push count r.operands.items value)
-      ∙ ap (λ (l : List Value). ending_row a r count (go l st)) (last_push count r.operands.items value)
-      ∙ sym (row_answered_goes a r count (on_answer (λ x. go (last_of count r.operands.items ++ x ∷ [])))
-      (resumed_keeps a r.depth (below_of r) (f.Row one rest count))
-      (piece (joins (v.core one.now)) (constant_of (form_of (v.core first))) (eval (v.core first) w) (seen r)) (ends (answer value) st) same)
-      ∙ ap (λ (l : List Core). does_row a r count (row_of l)) (sym e)
+  -- what the others come to, behind a value that is there
+  abbrev pub row_behind : List Core → Value → ℕ → World → Meaning
+  row_behind rest value left w st =
+      on_answers (done w (v.core one.now)) (evals (joins (v.core one.now)) (forms_of rest) w) (last_of count r.operands.items ++ value ∷ []) (record st { left = left })
+
+  -- the next one is answered, and the others come by a frame
+  pub row_leaves : (m : Run) (rest : Bor (List Core)) (value : Value) (left : ℕ) → m.frames.items ≡ r.frames.items ++ f.Row one rest count ∷ [] → m ≡ record r { left = left; frames = m.frames }
+      → does a m (λ w st. ends (answer value) st) ≡ does_row a r count (row_behind rest.now value left)
+  row_leaves m rest value left pushed stays = does_pushed a (record r { left = left }) m (f.Row one rest count) (λ w st. ends (answer value) st) pushed stays
+
+  module _ (forms : List Core) (first : Core) (rest : Bor (List Core)) (value : Value) (left : ℕ) (is : forms ≡ first ∷ rest.now)
+      (same : mute (piece (joins (v.core one.now)) (constant_of (form_of (v.core first))) (eval (v.core first) (world_in a r.depth)) (seen r)) ≡ mute (ends (answer value) (record (seen r) { left = left }))) where
+    pub row_answers : does_row a r count (row_behind rest.now value left) ≡ does_row a r count (row_of forms)
+    row_answers =
+        let w = world_in a r.depth in
+        let go : List Value → Meaning = on_answers (done w (v.core one.now)) (evals (joins (v.core one.now)) (forms_of rest.now) w) in
+        sym (row_answered_goes a r count (on_answer (λ x. go (last_of count r.operands.items ++ x ∷ [])))
+        (resumed_keeps a r.depth (below_of r) (f.Row one rest count))
+        (piece (joins (v.core one.now)) (constant_of (form_of (v.core first))) (eval (v.core first) w) (seen r)) (ends (answer value) (record (seen r) { left = left })) same)
+        ∙ ap (λ (l : List Core). does_row a r count (row_of l)) (sym is)
+
+    -- the next one is answered at once, and is among the operands
+    pub row_goes : (m : Run) (more : ℕ) → more ≡ count + 1 → m.operands.items ≡ r.operands.items ++ value ∷ [] → m ≡ record r { left = left; operands = m.operands }
+        → does_row a m more (λ w. on_answers (done w (v.core one.now)) (evals (joins (v.core one.now)) (forms_of rest.now) w) (last_of more m.operands.items)) ≡ does_row a r count (row_of forms)
+    row_goes m more next pushed stays =
+        let w = world_in a r.depth in
+        let go : List Value → Meaning = on_answers (done w (v.core one.now)) (evals (joins (v.core one.now)) (forms_of rest.now) w) in
+        let st : State = record (seen r) { left = left } in
+        ap (λ (q : Run). mute (resume a (record (below_of q) { operands = but_last more m.operands.items }) q.frames.items
+        (on_answers (done (world_in a q.depth) (v.core one.now)) (evals (joins (v.core one.now)) (forms_of rest.now) (world_in a q.depth)) (last_of more m.operands.items) (seen q)))) stays
+        ∙ ap (λ (n : ℕ). mute (resume a (record (below_of r) { operands = but_last n m.operands.items }) r.frames.items (go (last_of n m.operands.items) st))) next
+        ∙ ap (λ (l : List Value). mute (resume a (record (below_of r) { operands = but_last (count + 1) l }) r.frames.items (go (last_of (count + 1) l) st))) pushed
+        ∙ ap (λ (l : List Value). mute (resume a (record (below_of r) { operands = l }) r.frames.items (go (last_of (count + 1) (r.operands.items ++ value ∷ [])) st))) (but_push count r.operands.items value)
+        ∙ ap (λ (l : List Value). ending_row a r count (go l st)) (last_push count r.operands.items value)
+        ∙ row_answers
 
 -- one value, by place
 pub only : (names : List Name) (values rest : List Value) (value : Value) → values ≡ value ∷ rest → length rest ≡ 0 → length names ≡ 0

@@ -1,5 +1,6 @@
 // Forms that are entered.
 ghost use Rattle.std.specs.Prelude.{◌≡◌, ◌≢◌, ◌<◌, ◌+◌, ◌-◌, ◌∷◌, [], Some, None, true, false, map, length, IfOk};
+ghost use Rattle.dart_ir.specs.Classes.{IsValid};
 ghost use Rattle.dart_ir.specs.declared.value.Value.TheVariants.{Null};
 ghost use Rattle.dart_ir.specs.Ty.{ty};
 ghost use Rattle.core_program.specs.Core as form;
@@ -24,7 +25,7 @@ use dart_base::place::Place;
 use dart_ir::types::TypeRef;
 use dart_ir::value::Value;
 use machine_frame::around::{Around, Fault};
-use machine_frame::moves::{answer, bind_let, choose, go_on, wait};
+use machine_frame::moves::{answer, bind_let, choose, wait};
 use machine_frame::objects::field_of;
 use machine_frame::run::{Control, Exit, Frame, Limit, Run, Switching, Turn};
 use machine_frame::stacks::push_frame;
@@ -32,6 +33,7 @@ use machine_frame::variables::read_variable;
 use machine_lookup::program::takes_step;
 use machine_loop::loops::{begin_turn, take_turn};
 use machine_loop::operators::at_once;
+use machine_loop::statements::go_on;
 use machine_value::errors::throw_named;
 use machine_value::objects::make_closure;
 use machine_value::statics::static_read;
@@ -41,6 +43,7 @@ use machine_value::verdicts::type_object;
 #[tactic(auto, using(machine_frame::proofs::Steps::form_enters, machine_frame::proofs::Steps::form_enters_not, machine_frame::proofs::Steps::form_free, core_program::proofs::Views::views))]
 #[inline(always)]
 pub fn enter<'a>(run: &mut Run<'a>, a: Around<'a>, core: &'a Core) -> Result<Control<'a>, Fault>
+    requires valid { IsValid a.program.now.classes }
     ensures meaning { IfOk result (λ c. going a.entry run.new c ≡ does a.entry run.old (eval (v.core core.now))) }
     ensures less { IfOk result (λ c. work run.new c < room run.old + 2) }
 {
@@ -59,6 +62,7 @@ pub fn enter<'a>(run: &mut Run<'a>, a: Around<'a>, core: &'a Core) -> Result<Con
 #[tactic(auto, using(core_program::proofs::Views::views))]
 #[inline(always)]
 fn enter_free<'a>(run: &mut Run<'a>, a: Around<'a>, core: &'a Core) -> Result<Control<'a>, Fault>
+    requires valid { IsValid a.program.now.classes }
     ensures meaning { IfOk result (λ c. going a.entry run.new c ≡ does a.entry run.old (eval (v.core core.now))) }
     ensures less { IfOk result (λ c. work run.new c < room run.old + 2) }
 {
@@ -86,6 +90,7 @@ fn enter_free<'a>(run: &mut Run<'a>, a: Around<'a>, core: &'a Core) -> Result<Co
 /// A statement with labels: the one within is entered, where a step is left for it.
 #[tactic(auto, using(machine_frame::proofs::Resume::resume_push, machine_frame::proofs::Steps::load_push, machine_frame::proofs::Labels::labels_eval, machine_frame::proofs::Labels::labels_end, machine_frame::proofs::Labels::none_left))]
 fn enter_labels<'a>(run: &mut Run<'a>, a: Around<'a>, core: &'a Core) -> Result<Control<'a>, Fault>
+    requires valid { IsValid a.program.now.classes }
     ensures meaning { IfOk result (λ c. going a.entry run.new c ≡ does a.entry run.old (eval (v.core core.now))) }
     ensures less { IfOk result (λ c. work run.new c < room run.old + 2) }
 {
@@ -150,6 +155,7 @@ fn within<'a>(core: &'a Core) -> &'a Core
 /// Enters a statement within labels.
 #[tactic(auto, using(machine_frame::proofs::Steps::form_enters, machine_frame::proofs::Steps::form_free, core_program::proofs::Views::views))]
 fn enter_within<'a>(run: &mut Run<'a>, a: Around<'a>, core: &'a Core) -> Result<Control<'a>, Fault>
+    requires valid { IsValid a.program.now.classes }
     requires steps { run.old.left ≢ 0 }
     requires bare { labels (v.core core.now) ≡ [] }
     ensures meaning { IfOk result (λ c. going a.entry run.new c ≡ does a.entry run.old (eval (v.core core.now))) }
@@ -225,7 +231,8 @@ fn bare_loop<'a>(core: &'a Core) -> Turn<'a>
 #[tactic(auto, using(core_program::proofs::Views::views))]
 #[inline(always)]
 fn go_into<'a>(run: &mut Run<'a>, a: Around<'a>, core: &'a Core) -> Result<Control<'a>, Fault>
-    requires { takes_step (v.form (out-Core core.now).form) ≡ true }
+    requires valid { IsValid a.program.now.classes }
+    requires steps { takes_step (v.form (out-Core core.now).form) ≡ true }
     ensures meaning { IfOk result (λ c. going a.entry run.new c ≡ does a.entry run.old (act (v.form (out-Core core.now).form) (out-Core core.now).place)) }
     ensures less { IfOk result (λ c. work run.new c < room run.old + 10) }
 {
@@ -249,7 +256,8 @@ fn go_into<'a>(run: &mut Run<'a>, a: Around<'a>, core: &'a Core) -> Result<Contr
 /// Begins the work of any form whose step is taken.
 #[tactic(auto, using(core_program::proofs::Views::views))]
 fn go_into_any<'a>(run: &mut Run<'a>, a: Around<'a>, core: &'a Core) -> Result<Control<'a>, Fault>
-    requires { takes_step (v.form (out-Core core.now).form) ≡ true }
+    requires valid { IsValid a.program.now.classes }
+    requires steps { takes_step (v.form (out-Core core.now).form) ≡ true }
     ensures meaning { IfOk result (λ c. going a.entry run.new c ≡ does a.entry run.old (act (v.form (out-Core core.now).form) (out-Core core.now).place)) }
     ensures less { IfOk result (λ c. work run.new c < room run.old + 10) }
 {

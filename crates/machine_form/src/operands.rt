@@ -1,14 +1,16 @@
 // What is done with one operand, and with two.
-ghost use Rattle.std.specs.Prelude.{nat_lt, slice_get, ◌≡◌, ◌<◌, ◌+◌, ◌∷◌, [], Some, None, true, false, length, IfOk};
+ghost use Rattle.std.specs.Prelude.{nat_lt, slice_get, IfSome, ◌≡◌, ◌≢◌, ◌≤◌, ◌<◌, ◌+◌, ◌∷◌, [], Some, None, true, false, length, IfOk};
+ghost use Rattle.dart_ir.specs.Classes.{IsValid};
 ghost use Rattle.dart_ir.specs.declared.value.Value.TheVariants.{Null, At};
 ghost use Rattle.dart_store.specs.Heap.{with_static};
 ghost use Rattle.core_program.specs.View as v;
 ghost use Rattle.evaluation.specs.State.{State, Outcome, Completion, answer, ends};
-ghost use Rattle.evaluation.specs.Evaluation.{unary, binary, declared_with, site};
+ghost use Rattle.evaluation.specs.Evaluation.{unary, binary, declared_with};
 ghost use Rattle.evaluation.specs.Invocation as call;
 ghost use Rattle.evaluation.specs.Variables as x;
 ghost use Rattle.machine_frame.specs.Outside.{setting_of, world_in};
 ghost use Rattle.machine_frame.specs.Frames.{seen, going, does, room, work, value_or_full};
+ghost use Rattle.machine_form.specs.Stored.{WritesField};
 
 use core_program::form::{Binary, Unary};
 use dart_base::place::Place;
@@ -22,6 +24,7 @@ use machine_frame::objects::{class_of, field_total};
 use machine_frame::run::{Control, Exit, Limit, Run};
 use machine_frame::variables::{declare, write_variable};
 use machine_loop::operators::equality;
+use machine_value::checks::check;
 use machine_value::errors::throw_value;
 
 /// What is done with an operand's answer.
@@ -34,6 +37,7 @@ pub fn finish_unary<'a>(
     one: Unary,
     value: Value,
 ) -> Result<Control<'a>, Fault>
+    requires valid { IsValid a.program.now.classes }
     ensures meaning { IfOk result (λ c. going a.entry run.new c ≡ does a.entry run.old (λ w. unary w at is_function (v.unary one) value)) }
     ensures less { IfOk result (λ c. work run.new c < room run.old + 6) }
 {
@@ -147,20 +151,6 @@ fn write_field<'a>(
     answer(run, a, value)
 }
 
-/// A value comes to a site: in production it passes.
-#[inline(always)]
-fn check<'a>(
-    run: &mut Run<'a>,
-    a: Around<'a>,
-    number: u32,
-    value: Value,
-) -> Result<Control<'a>, Fault>
-    ensures meaning { IfOk result (λ c. going a.entry run.new c ≡ does a.entry run.old (λ w. site w number value)) }
-    ensures less { IfOk result (λ c. work run.new c < room run.old + 6) }
-{
-    Ok(answer(run, a, value))
-}
-
 /// What is done with two operands' answers.
 #[inline(always)]
 pub fn finish_binary<'a>(
@@ -171,16 +161,75 @@ pub fn finish_binary<'a>(
     first: Value,
     second: Value,
 ) -> Result<Control<'a>, Fault>
+    requires valid { IsValid a.program.now.classes }
     ensures meaning { IfOk result (λ c. going a.entry run.new c ≡ does a.entry run.old (λ w. binary w at (v.binary one) first second)) }
     ensures less { IfOk result (λ c. work run.new c < room run.old + 10) }
 {
     match one {
         Binary::Equal => equal_operands(run, a, at, first, second),
-        Binary::Set(name) => {
-            let class = class_of(run, a, first);
-            set_from(run, a, at, class, name.0, first, second)
+        Binary::Set(name) => set_operands(run, a, at, name.0, first, second),
+    }
+}
+
+/// A setter of an object is called; one that writes a field does so at once.
+fn set_operands<'a>(
+    run: &mut Run<'a>,
+    a: Around<'a>,
+    at: Place,
+    name: u32,
+    object: Value,
+    value: Value,
+) -> Result<Control<'a>, Fault>
+    requires valid { IsValid a.program.now.classes }
+    ensures meaning { IfOk result (λ c. going a.entry run.new c ≡ does a.entry run.old (λ w. call.set w at name object value)) }
+    ensures less { IfOk result (λ c. work run.new c < room run.old + 10) }
+{
+    let class = class_of(run, a, object);
+    match field_to_write(run, a, class, name, object) {
+        None => set_from(run, a, at, class, name, object, value),
+        Some((r, index)) => {
+            run.left -= 3;
+            run.store.set_field(r, index, value);
+            Ok(answer(run, a, value))
         }
     }
+}
+
+/// The object and its field that a setter writes which is called in production with the steps that it takes. `None` says nothing.
+fn field_to_write(run: &Run, a: Around, class: u32, name: u32, object: Value) -> Option<(Ref, u32)>
+    ensures object { IfSome result (λ p. object ≡ At p.0) }
+    ensures field { IfSome result (λ p. nat_lt p.1 (x.field_total (slice_get run.now.store.objects p.0.0)) ≡ true) }
+    ensures writes { IfSome result (λ p. WritesField a.entry class name p.1) }
+    ensures enters { IfSome result (λ p. (run.now.depth ≢ 0) × (3 ≤ run.now.left)) }
+{
+    if run.depth == 0 || run.left < 3 {
+        return None;
+    }
+    let Value::At(r) = object else {
+        return None;
+    };
+    let Some(index) = field_written(a, class, name) else {
+        return None;
+    };
+    if index as usize >= field_total(&run.store, r) {
+        return None;
+    }
+    Some((r, index))
+}
+
+/// The field that a setter of objects of a class writes, in production. `None` says nothing.
+#[tactic(auto, using(machine_loop::proofs::Written::found_writing))]
+#[inline(always)]
+fn field_written(a: Around, class: u32, name: u32) -> Option<u32>
+    ensures { IfSome result (λ i. WritesField a.entry class name i) }
+{
+    let None = a.setup.annotated else {
+        return None;
+    };
+    let Some(found) = a.program.found(class, name) else {
+        return None;
+    };
+    found.writes
 }
 
 /// Two operands are compared; integers are at once.
@@ -193,6 +242,7 @@ fn equal_operands<'a>(
     first: Value,
     second: Value,
 ) -> Result<Control<'a>, Fault>
+    requires valid { IsValid a.program.now.classes }
     ensures meaning { IfOk result (λ c. going a.entry run.new c ≡ does a.entry run.old (λ w. call.equal w at first second)) }
     ensures less { IfOk result (λ c. work run.new c < room run.old + 10) }
 {

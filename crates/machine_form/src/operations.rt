@@ -1,5 +1,6 @@
 // Forms with one operand, and with two, that are entered.
 ghost use Rattle.std.specs.Prelude.{◌≡◌, ◌<◌, ◌+◌, Some, None, true, false, IfOk};
+ghost use Rattle.dart_ir.specs.Classes.{IsValid};
 ghost use Rattle.dart_ir.specs.declared.value.Value.TheVariants.{Null};
 ghost use Rattle.core_program.specs.View as v;
 ghost use Rattle.evaluation.specs.Sequence.{on_answer};
@@ -28,6 +29,7 @@ pub fn enter_unary<'a>(
     one: Unary,
     operand: &'a Core,
 ) -> Result<Control<'a>, Fault>
+    requires valid { IsValid a.program.now.classes }
     ensures meaning { IfOk result (λ c. going a.entry run.new c ≡ does a.entry run.old (λ w st. on_answer (unary w at (is_closure (form_of (v.core operand.now))) (v.unary one)) (before_operand w (is_closure (form_of (v.core operand.now))) (v.unary one) (eval (v.core operand.now) w) st))) }
     ensures less { IfOk result (λ c. work run.new c < room run.old + 10) }
 {
@@ -108,6 +110,7 @@ pub fn enter_binary<'a>(
     first: &'a Core,
     second: &'a Core,
 ) -> Result<Control<'a>, Fault>
+    requires valid { IsValid a.program.now.classes }
     ensures meaning { IfOk result (λ c. going a.entry run.new c ≡ does a.entry run.old (λ w st. on_answer (λ x st. on_answer (λ y. binary w at (v.binary one) x y) (eval (v.core second.now) w st)) (eval (v.core first.now) w st))) }
     ensures less { IfOk result (λ c. work run.new c < room run.old + 10) }
 {
@@ -130,6 +133,7 @@ pub fn second_operand<'a>(
     value: Value,
     second: &'a Core,
 ) -> Result<Control<'a>, Fault>
+    requires valid { IsValid a.program.now.classes }
     ensures meaning { IfOk result (λ c. going a.entry run.new c ≡ does a.entry run.old (λ w st. on_answer (λ y. binary w at (v.binary one) value y) (eval (v.core second.now) w st))) }
     ensures less { IfOk result (λ c. work run.new c < room run.old + 10) }
 {

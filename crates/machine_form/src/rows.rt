@@ -1,5 +1,6 @@
 // Rows of operands.
-ghost use Rattle.std.specs.Prelude.{◌≡◌, ◌<◌, ◌≤◌, ◌+◌, ◌∷◌, [], true, false, drop, IfOk, IfSome, MatchOption};
+ghost use Rattle.std.specs.Prelude.{◌≡◌, ◌<◌, ◌≤◌, ◌+◌, ◌∷◌, ◌++◌, [], true, false, drop, IfOk, IfSome, MatchOption};
+ghost use Rattle.dart_ir.specs.Classes.{IsValid};
 ghost use Rattle.dart_ir.specs.declared.value.Value.TheVariants.{Null};
 ghost use Rattle.core_program.specs.View as v;
 ghost use Rattle.machine_lookup.specs.Rows.{last_of, but_last};
@@ -38,11 +39,16 @@ pub fn begin_row<'a>(
     one: &'a Core,
     forms: &'a [Core],
 ) -> Result<Control<'a>, Fault>
+    requires valid { IsValid a.program.now.classes }
     ensures meaning { IfOk result (λ c. going a.entry run.new c ≡ does a.entry run.old (λ w. on_answers (done w (v.core one.now)) (evals (joins (v.core one.now)) (forms_of forms.now) w) [])) }
     ensures less { IfOk result (λ c. work run.new c < room run.old + 10) }
 {
     next(run, a, one, forms, 0)
 }
+
+/// How many forms may be behind an operand that is answered at once and is followed without a frame. So the host's stack does not grow
+/// with a row.
+const OPERANDS: usize = 200;
 
 /// The next of a row, or what is done where all are there.
 #[inline(always)]
@@ -53,6 +59,7 @@ pub fn next<'a>(
     forms: &'a [Core],
     count: u32,
 ) -> Result<Control<'a>, Fault>
+    requires valid { IsValid a.program.now.classes }
     ensures meaning { IfOk result (λ c. going a.entry run.new c ≡ does_row a.entry run.old count (λ w. on_answers (done w (v.core one.now)) (evals (joins (v.core one.now)) (forms_of forms.now) w) (last_of count run.old.operands.items))) }
     ensures less { IfOk result (λ c. work run.new c < room run.old + 10) }
 {
@@ -64,6 +71,9 @@ pub fn next<'a>(
                 Ok(Control::Enter(first))
             }
             Some((value, left)) => {
+                if rest.len() > OPERANDS && left < run.left {
+                    return answered(run, a, one, rest, count, value, left);
+                }
                 let Some(more) = count.checked_add(1) else {
                     return Err(Fault::Memory);
                 };
@@ -74,6 +84,26 @@ pub fn next<'a>(
             }
         },
     }
+}
+
+/// An operand is answered, and those behind it come by a frame.
+fn answered<'a>(
+    run: &mut Run<'a>,
+    a: Around<'a>,
+    one: &'a Core,
+    rest: &'a [Core],
+    count: u32,
+    value: Value,
+    left: u64,
+) -> Result<Control<'a>, Fault>
+    requires less { left < run.old.left }
+    ensures meaning { IfOk result (λ c. going a.entry run.new c ≡ does_row a.entry run.old count (λ w st. on_answers (done w (v.core one.now)) (evals (joins (v.core one.now)) (forms_of rest.now) w) (last_of count run.old.operands.items ++ value ∷ []) (record st { left = left }))) }
+    ensures less { IfOk result (λ c. work run.new c < room run.old + 10) }
+{
+    run.left = left;
+    push_frame(run, Frame::Row(one, rest, count))?;
+    run.answer = value;
+    Ok(Control::Leave(Exit::Answered))
 }
 
 /// An operand that is answered at once, with the steps left after it: a constant piece of a string takes none. What isn't is entered
@@ -248,6 +278,7 @@ fn finish<'a>(
     one: &'a Core,
     count: u32,
 ) -> Result<Control<'a>, Fault>
+    requires valid { IsValid a.program.now.classes }
     ensures meaning { IfOk result (λ c. going a.entry run.new c ≡ does_row a.entry run.old count (λ w. done w (v.core one.now) (last_of count run.old.operands.items))) }
     ensures less { IfOk result (λ c. work run.new c < room run.old + 10) }
 {
@@ -330,7 +361,8 @@ fn finish_job<'a>(
     job: Job,
     passed: Passed<'a>,
 ) -> Result<Control<'a>, Fault>
-    requires { passed.skip ≡ false }
+    requires valid { IsValid a.program.now.classes }
+    requires whole { passed.skip ≡ false }
     ensures meaning { IfOk result (λ c. going a.entry run.new c ≡ does_row a.entry run.old passed.entry.count (λ w. row w at (v.job job) (v.names passed.entry.names.now) (last_of passed.entry.count run.old.operands.items))) }
     ensures less { IfOk result (λ c. work run.new c < room run.old + 10) }
 {
@@ -362,6 +394,7 @@ fn send_operands<'a>(
     this: Value,
     passed: Passed<'a>,
 ) -> Result<Control<'a>, Fault>
+    requires valid { IsValid a.program.now.classes }
     ensures meaning { IfOk result (λ c. going a.entry run.new c ≡ does_row a.entry run.old passed.entry.count (λ w. call.send w at name this (given_of passed.entry run.old.operands.items))) }
     ensures less { IfOk result (λ c. work run.new c < room run.old + 10) }
 {

@@ -158,7 +158,7 @@ fn units_of<'b>(a: Around<'b>, store: &'b Store, value: Value) -> Option<&'b [u1
     ensures { MatchOption result (units_of (setting_of a.entry) store.now value ≡ None) (λ units. units_of (setting_of a.entry) store.now value ≡ Some units.now) }
 {
     match value {
-        Value::Literal(number) => match a.program.literals.get(number as usize) {
+        Value::Literal(number) => match a.program.core().literals.get(number as usize) {
             None => None,
             Some(text) => Some(text.as_slice()),
         },

@@ -1,6 +1,7 @@
 pub mod KindOf
 pub mod Rows
 pub mod Resume
+pub mod Admitted
 pub mod Cells
 pub mod Added
 pub mod Passing

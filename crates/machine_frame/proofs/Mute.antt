@@ -1,9 +1,13 @@
 -- The events before a frame make no difference to the rest.
-use Rattle.std.proofs.Common.{◌≡◌, ℕ, List, [], ◌∷◌, ◌++◌, refl, sym, ap, ◌∙◌, suc, map, take, drop, reverse, Bool, true, false, Option, Some, None}
+use Rattle.std.proofs.Common.{◌≡◌, inl, inr, ℕ, ◌+◌, nat_le, List, [], ◌∷◌, ◌++◌, refl, sym, ap, ◌∙◌, suc, map, take, drop, reverse, Bool, true, false, Option, Some, None}
 use Rattle.dart_base.specs.declared.place.Place.{Place}
 use Rattle.dart_ir.specs.declared.value.Value.{Value}
 use Rattle.dart_ir.specs.declared.value.Value.TheVariants.{Null, Bool as Truth}
-use Rattle.dart_ir.specs.Object.{HeadTy}
+use Rattle.dart_ir.specs.declared.ending.Line.{Line}
+use Rattle.dart_ir.specs.declared.kind.ThrowKind.{ThrowKind}
+use Rattle.dart_ir.specs.declared.kind.ThrowKind.TheVariants.{TypeError}
+use Rattle.dart_ir.specs.Object.{HeadTy, HeapObject, instance}
+use Rattle.dart_store.specs.Heap.{Heap, cost}
 use Rattle.dart_ir.specs.Ty.{Ty, ty}
 use Rattle.core_program.specs.Core as c
 use Rattle.core_program.specs.View as v
@@ -12,14 +16,16 @@ use Rattle.core_program.specs.declared.form.Case.{Case}
 use Rattle.core_program.specs.declared.form.Core.{Core}
 use Rattle.core_program.specs.declared.form.Handler.{Handler}
 use Rattle.core_program.specs.declared.form.Form.TheViews.{out-Attempt}
-use Rattle.evaluation.specs.State.{State, now, Event, tested, with_event, Completion, answer, returns, ended, Outcome, ends, Meaning, Reaction, Given, Callee, Setting}
+use Rattle.evaluation.specs.State.{State, now, Event, tested, reported, with_event, with_line, Completion, answer, jumps, returns, throws, ended, Outcome, ends, Meaning, Reaction, Given, Callee, Known, Setting, World}
 use Rattle.evaluation.specs.Sequence.{on_answer, is_true}
 use Rattle.evaluation.specs.Values.{head_of, arguments_here}
-use Rattle.evaluation.specs.Evaluation.{eval, evals, part, clauses, nested, site, binary, row, binding, returned}
+use Rattle.evaluation.specs.Evaluation.{eval, evals, part, clauses, nested, site, unary, binary, row, binding, returned}
 use Rattle.evaluation.specs.Invocation.{leaving}
 use Rattle.evaluation.specs.Statements as s
 use Rattle.evaluation.specs.Variables.{declare, settled}
-use Rattle.evaluation.specs.Checks.{passes, judged, lets_pass, reaction}
+use Rattle.evaluation.specs.Checks.{passes, judged, OnFailure, lets_pass, reports, reaction, report_line, site_place}
+use Rattle.evaluation.specs.Classes.{site_at}
+use Rattle.evaluation.specs.Objects.{added, throw_new}
 use Rattle.evaluation.proofs.Logic as l
 use Rattle.evaluation.proofs.Chapters as p
 use Rattle.evaluation.proofs.Calls as calls
@@ -31,10 +37,10 @@ use Rattle.machine_frame.specs.declared.run.Turn.{Turn}
 use Rattle.machine_frame.specs.declared.run.Frame.{Frame}
 use Rattle.machine_frame.specs.declared.run.Frame.TheVariants as f
 use Rattle.machine_frame.specs.declared.run.Run.{Run}
-use Rattle.machine_frame.specs.Outside.{checking_of, setting_of, world_in}
+use Rattle.machine_frame.specs.Outside.{checking_of, failing, known_of, setting_of, world_in, IsAdmitted}
 use Rattle.machine_lookup.specs.Rows.{last_of, but_last}
 use Rattle.machine_frame.specs.Labels.{labels, labelled_all}
-use Rattle.machine_frame.specs.Frames.{Below, below, forms_of, loop_of, next_turn, tested as tested_by, updated, done, done_of, joins, last_body, completed, thrown_of, given_of, activation_of, branches_of, case_from, case_falls, resumed, resume_from, resume, mute, below_of, ending, ending_row}
+use Rattle.machine_frame.specs.Frames.{Below, below, forms_of, loop_of, next_turn, tested as tested_by, updated, done, done_of, joins, last_body, completed, thrown_of, given_of, activation_of, branches_of, case_from, case_falls, resumed, resume_from, resume, mute, below_of, seen, does, ending, ending_row}
 
 mute_front : (e : Event) (o : Outcome) → mute (front e o) ≡ mute o
 mute_front e (ends c st) = refl
@@ -56,7 +62,7 @@ module _ (a : Around) (d : ℕ) where
   S = setting_of a
 
   abbrev R : Reaction
-  R = reaction (checking_of a) S lets_pass
+  R = reaction (checking_of a) S (failing a.setup.now.annotated)
 
   abbrev C : ℕ → Callee → Given → Meaning
   C = (nested S R d).calls
@@ -65,7 +71,7 @@ module _ (a : Around) (d : ℕ) where
   I = (nested S R d).inits
 
   sites : (n : ℕ) (head : HeadTy) (args : List Ty) (u : Value) → Kept (λ st. R n head args u (with_event st (tested n head args)))
-  sites = kept_site (checking_of a) S lets_pass
+  sites = kept_site (checking_of a) S (failing a.setup.now.annotated)
 
   kept_calls : (x : ℕ) (callee : Callee) (g : Given) → Kept (C x callee g)
   kept_calls = forms.calls_rel kept_logic S R R sites d
@@ -124,6 +130,9 @@ module _ (a : Around) (d : ℕ) where
   -- what an answer goes on with
   pub going_on : (go : Value → Meaning) → ((u : Value) → Kept (go u)) → Keeps (on_answer go)
   going_on go k y = l.answers kept_logic go go k (λ st. ends y st) (λ st. ends y st) (kept_ends y)
+
+  pub unary_kept : (at : Place) (b : Bool) (one : c.Unary ℕ) (x : Value) → Kept (unary (world_in a d) at b one x)
+  unary_kept at b one x = forms.unary_rel kept_logic S R R C C I I sites kept_calls kept_inits at b one x
 
   pub binary_kept : (at : Place) (one : c.Binary ℕ) (x y : Value) → Kept (binary (world_in a d) at one x y)
   binary_kept at one x y = forms.binary_rel kept_logic S R R C C I I sites kept_calls kept_inits at one x y
@@ -230,28 +239,116 @@ pub row_answered_goes : (a : Around) (r : Run) (count : ℕ) (g : Outcome → Ou
 row_answered_goes a r count g k o o' e =
     quiet a (record (below_of r) { operands = but_last count r.operands.items }) r.frames.items (g o) (g o') (keeps_mute g k o ∙ ap (λ o. mute (g o)) e ∙ sym (keeps_mute g k o'))
 
+-- ---- sites
+
 -- in production a value that comes to a site passes
-pub passes_by : (b : Bool) (a : Around) (n : ℕ) (u : Value) (st : State) → judged b (checking_of a) (setting_of a) lets_pass n u st ≡ ends (answer u) st
-passes_by true a n u st = refl
-passes_by false a n u st = refl
+pub judged_passes : (b : Bool) (how : OnFailure) (a : Around) (n : ℕ) (u : Value) (st : State) → how ≡ lets_pass
+    → judged b (checking_of a) (setting_of a) how n u st ≡ ends (answer u) st
+judged_passes true how a n u st e = refl
+judged_passes false how a n u st e = ap (λ h. judged false (checking_of a) (setting_of a) h n u st) e
 
-pub site_passes : (a : Around) (d n : ℕ) (u : Value) (st : State) → mute (site (world_in a d) n u st) ≡ mute (ends (answer u) st)
-site_passes a d n u st =
-    ap mute (passes_by (passes (checking_of a) n (head_of (setting_of a) st.heap u) (arguments_here (setting_of a) (now st))) a n u
-    (with_event st (tested n (head_of (setting_of a) st.heap u) (arguments_here (setting_of a) (now st)))))
+pub site_passes : (a : Around) (d n : ℕ) (u : Value) (st : State) → a.setup.now.annotated ≡ None → mute (site (world_in a d) n u st) ≡ mute (ends (answer u) st)
+site_passes a d n u st e =
+    ap mute (judged_passes (passes (checking_of a) n (head_of (setting_of a) st.heap u) (arguments_here (setting_of a) (now st))) (failing a.setup.now.annotated) a n u
+    (with_event st (tested n (head_of (setting_of a) st.heap u) (arguments_here (setting_of a) (now st)))) (ap failing e))
 
-pub site_goes : (a : Around) (d : ℕ) (b : Below) (fs : List Frame) (n : ℕ) (u : Value) (st : State)
-    → mute (resume a b fs (ends (answer u) st)) ≡ mute (resume a b fs (site (world_in a d) n u st))
-site_goes a d b fs n u st = sym (quiet a b fs (site (world_in a d) n u st) (ends (answer u) st) (site_passes a d n u st))
+-- and so does one that passes its check
+pub site_admits : (a : Around) (d n : ℕ) (u : Value) (st : State) → passes (checking_of a) n (head_of (setting_of a) st.heap u) (arguments_here (setting_of a) (now st)) ≡ true
+    → mute (site (world_in a d) n u st) ≡ mute (ends (answer u) st)
+site_admits a d n u st e =
+    ap (λ b. mute (judged b (checking_of a) (setting_of a) (failing a.setup.now.annotated) n u
+    (with_event st (tested n (head_of (setting_of a) st.heap u) (arguments_here (setting_of a) (now st)))))) e
+
+-- a value that is admitted
+pub admitted : (a : Around) (h : Heap) (n : ℕ) (u : Value) (args : List Ty) (st : State) → IsAdmitted a h n u
+    → judged (passes (checking_of a) n (head_of (setting_of a) h u) args) (checking_of a) (setting_of a) (failing a.setup.now.annotated) n u st ≡ ends (answer u) st
+admitted a h n u args st (inl e) = judged_passes (passes (checking_of a) n (head_of (setting_of a) h u) args) (failing a.setup.now.annotated) a n u st (ap failing e)
+admitted a h n u args st (inr e) = ap (λ b. judged b (checking_of a) (setting_of a) (failing a.setup.now.annotated) n u st) (e args)
+
+pub site_admitted : (a : Around) (d n : ℕ) (u : Value) (st : State) → IsAdmitted a st.heap n u → mute (site (world_in a d) n u st) ≡ mute (ends (answer u) st)
+site_admitted a d n u st e =
+    ap mute (admitted a st.heap n u (arguments_here (setting_of a) (now st))
+    (with_event st (tested n (head_of (setting_of a) st.heap u) (arguments_here (setting_of a) (now st)))) e)
+
+pub site_goes : (a : Around) (r : Run) (n : ℕ) (u : Value) → mute (site (world_in a r.depth) n u (seen r)) ≡ mute (ends (answer u) (seen r))
+    → does a r (λ w st. ends (answer u) st) ≡ does a r (λ w. site w n u)
+site_goes a r n u e = sym (quiet a (below_of r) r.frames.items (site (world_in a r.depth) n u (seen r)) (ends (answer u) (seen r)) e)
+
+-- ---- checks that fail
+
+throws_on : (b : Bool) (object : HeapObject) (g : Value → Meaning) (at : Place) (st : State)
+    → on_answer g (on_answer (λ error. ends (throws error at)) (added b object st)) ≡ on_answer (λ error. ends (throws error at)) (added b object st)
+throws_on true object g at st = refl
+throws_on false object g at st = refl
+
+-- an error that is thrown passes what would go on with an answer
+throw_goes : (k : Known) (at : Place) (kind : ThrowKind) (g : Value → Meaning) (st : State) → on_answer g (throw_new k at kind Null st) ≡ throw_new k at kind Null st
+throw_goes k at kind g st =
+    let object = instance (k.error_class kind) [] (Null ∷ []) in
+    throws_on (nat_le (st.heap.used + cost object) st.heap.limit) object g at st
+
+module _ (a : Around) (r : Run) (n : ℕ) (u : Value) where
+  abbrev line_of : Line
+  line_of = report_line (checking_of a).program n
+
+  abbrev place_of : Place
+  place_of = site_place (site_at (checking_of a).program n)
+
+  abbrev thrown : State → Outcome
+  thrown = throw_new (known_of a.setup.now.known) place_of TypeError Null
+
+  -- the state as the value has come to the site, and as the failed check is reported
+  abbrev come : State
+  come = with_event (seen r) (tested n (head_of (setting_of a) r.store u) (arguments_here (setting_of a) (now (seen r))))
+
+  abbrev told : State
+  told = with_event (with_line come line_of) (reported n)
+
+  refused : (how : OnFailure) (b : Bool) → how ≡ reports → b ≡ false → judged b (checking_of a) (setting_of a) how n u come ≡ thrown told
+  refused how b is_how is_b =
+      ap (λ h. judged b (checking_of a) (setting_of a) h n u come) is_how ∙ ap (λ b. judged b (checking_of a) (setting_of a) reports n u come) is_b
+
+  -- a check that fails: it is reported, and an error thrown, whatever would go on with the value
+  pub refusal_goes : (m : Run) (go : World → Value → Meaning) (at : Place) → failing a.setup.now.annotated ≡ reports
+      → passes (checking_of a) n (head_of (setting_of a) r.store u) (arguments_here (setting_of a) (now (seen r))) ≡ false
+      → m ≡ record r { output = m.output } → m.output.items ≡ r.output.items ++ line_of ∷ [] → at ≡ place_of
+      → does a m (λ w. throw_new w.setting.known at TypeError Null) ≡ does a r (λ w st. on_answer (go w) (site w n u st))
+  refusal_goes m go at is_how is_refused rest output is_at =
+      let w = world_in a r.depth in
+      ap (λ (m : Run). does a m (λ w. throw_new w.setting.known at TypeError Null)) rest
+      ∙ ap (λ (ls : List Line). ending a r (throw_new (known_of a.setup.now.known) at TypeError Null (record (seen r) { output = ls }))) output
+      ∙ ap (λ (at : Place). ending a r (throw_new (known_of a.setup.now.known) at TypeError Null (with_line (seen r) line_of))) is_at
+      ∙ sym (quiet a (below_of r) r.frames.items (thrown told) (thrown (with_line (seen r) line_of))
+      (den_mute thrown (l.throw_new_rel kept_logic (known_of a.setup.now.known) place_of TypeError Null) told))
+      ∙ ap (ending a r) (sym (throw_goes (known_of a.setup.now.known) place_of TypeError (go w) told))
+      ∙ ap (λ (o : Outcome). ending a r (on_answer (go w) o))
+      (sym (refused (failing a.setup.now.annotated) (passes (checking_of a) n (head_of (setting_of a) r.store u) (arguments_here (setting_of a) (now (seen r)))) is_how is_refused))
+
+-- an answer that is answered
+pub answer_again : (o : Outcome) → on_answer (λ x st. ends (answer x) st) o ≡ o
+answer_again (ends (answer x) st) = refl
+answer_again (ends (jumps way n) st) = refl
+answer_again (ends (returns x) st) = refl
+answer_again (ends (throws x at) st) = refl
+answer_again (ends (ended e) st) = refl
+
+-- what goes on with an answer, and then with another
+pub answers_join : (go further : Value → Meaning) (o : Outcome) → on_answer (λ x st. on_answer further (go x st)) o ≡ on_answer further (on_answer go o)
+answers_join go further (ends (answer x) st) = refl
+answers_join go further (ends (jumps way n) st) = refl
+answers_join go further (ends (returns x) st) = refl
+answers_join go further (ends (throws x at) st) = refl
+answers_join go further (ends (ended e) st) = refl
 
 -- a parameter whose value has passed its site
 pub bind_goes : (a : Around) (d : ℕ) (b : Below) (fs : List Frame) (g : Given) (qs : List (Parameter ℕ)) (i : ℕ) (body : c.Part ℕ) (x n : ℕ) (u : Value) (st : State)
+    → mute (site (world_in a d) n u st) ≡ mute (ends (answer u) st)
     → mute (resume a b fs (on_answer (λ _. binding (world_in a d) g qs i (part body (world_in a d) Null)) (declare (setting_of a) x u st)))
     ≡ mute (resume a b fs (on_answer (λ _. binding (world_in a d) g qs i (part body (world_in a d) Null)) (on_answer (declare (setting_of a) x) (site (world_in a d) n u st))))
-bind_goes a d b fs g qs i body x n u st =
+bind_goes a d b fs g qs i body x n u st e =
     quiet a b fs _ _
     (sym (keeps_mute (λ o. on_answer (λ _. binding (world_in a d) g qs i (part body (world_in a d) Null)) (on_answer (declare (setting_of a) x) o)) keeps (site (world_in a d) n u st)
-    ∙ ap (λ o. mute (on_answer (λ _. binding (world_in a d) g qs i (part body (world_in a d) Null)) (on_answer (declare (setting_of a) x) o))) (site_passes a d n u st)
+    ∙ ap (λ o. mute (on_answer (λ _. binding (world_in a d) g qs i (part body (world_in a d) Null)) (on_answer (declare (setting_of a) x) o))) e
     ∙ sym (keeps_mute (λ o. on_answer (λ _. binding (world_in a d) g qs i (part body (world_in a d) Null)) (on_answer (declare (setting_of a) x) o)) keeps (ends (answer u) st))))
   where
     keeps : Keeps (λ o. on_answer (λ _. binding (world_in a d) g qs i (part body (world_in a d) Null)) (on_answer (declare (setting_of a) x) o))

@@ -1,5 +1,5 @@
 -- What natives do that are not the evaluator's, and those of numbers.
-use Rattle.std.proofs.Common.{◌≡◌, ℕ, ◌+◌, ◌-◌, ◌/◌, List, [], ◌∷◌, take, sum_by, refl, sym, ap, ◌∙◌, nat_lt, Bool, true, false, if◌then◌else◌, ℤ, ◌==◌, ◌&&◌, Option, Some, None, slice_index_or, arith}
+use Rattle.std.proofs.Common.{◌≡◌, ℕ, ◌+◌, ◌-◌, ◌/◌, List, [], ◌∷◌, take, sum_by, refl, sym, ap, ◌∙◌, nat_lt, Bool, true, false, if◌then◌else◌, ℤ, ◌==◌, ◌&&◌, Option, Some, None, slice_get, slice_index_or, pos, arith}
 use Rattle.std.proofs.lemmas.Option.{none-some, same_Some}
 use Rattle.dart_base.specs.declared.place.Place.{Place}
 use Rattle.dart_ir.specs.declared.native.Answer.{Answer}
@@ -8,9 +8,15 @@ use Rattle.dart_ir.specs.declared.native.NativeId.{NativeId}
 use Rattle.dart_ir.specs.declared.native.NativeId.TheVariants as n
 use Rattle.dart_ir.specs.declared.value.Value.{Value}
 use Rattle.dart_ir.specs.declared.value.Value.TheVariants.{Null, Bool as Truth, Int, Literal, Code, At}
+use Rattle.dart_ir.specs.declared.kind.ThrowKind.TheVariants.{ArgumentError, RangeError}
+use Rattle.dart_ir.specs.declared.number.Ref.{Ref}
+use Rattle.dart_ir.specs.Integer.{integer_value}
+use Rattle.dart_ir.specs.Object.{HeapObject, text}
 use Rattle.dart_ir.specs.Ty.{Ty}
-use Rattle.dart_store.specs.Heap.{Heap}
-use Rattle.native_base.specs.Plan.{outcome, work, text_at}
+use Rattle.dart_store.specs.declared.store.Kind.TheVariants as kind
+use Rattle.dart_store.specs.Heap.{Heap, kind_of, length_of, field_at}
+use Rattle.native_base.specs.Plan.{outcome, work, text_at, text_of, needs, value, place}
+use Rattle.native_list.specs.List.{fixed_of, of_list, item}
 use Rattle.native_number.specs.Number.{is_unary, unary, is_binary, binary, number_of, with_one, with_two, number_native}
 use Rattle.dart_native.specs.Native.{argument, arity, is_of_evaluator, or_null, plan_on, plan, units_in}
 use Rattle.evaluation.specs.State.{State, answer, NativeEnd, gives, ends, Meaning}
@@ -203,3 +209,27 @@ pub integers_equal : (around : Around) (at : Place) (high low other_high other_l
     → native (setting_of around) at n.ObjectEqual (Int high low ∷ Int other_high other_low ∷ []) st ≡ ends (answer (Truth (high == other_high && low == other_low))) st
 integers_equal around at high low other_high other_low st =
     planned around at n.ObjectEqual (Int high low ∷ Int other_high other_low ∷ []) st (Truth (high == other_high && low == other_low)) 2 refl refl refl (λ ts. refl)
+
+-- ---- those of lists that only read
+
+no_text : (o : Option HeapObject) (fixed : Bool) → kind_of o ≡ kind.List fixed → units_in (text_of o) ≡ 0
+no_text (Some (text units)) fixed e = absurd (cc)
+no_text (Some object) fixed e = refl
+no_text None fixed e = refl
+
+module _ (around : Around) (at : Place) (r : Ref) (fixed : Bool) (st : State) (is_list : kind_of (slice_get st.heap.objects r.0) ≡ kind.List fixed) where
+  -- the item of a list at an index
+  pub list_item : (y : Value) (i : ℤ) (k : ℕ) → number_of y ≡ Some i → place (length_of (slice_get st.heap.objects r.0)) i ≡ Some k
+      → native (setting_of around) at n.ListIndex (At r ∷ y ∷ []) st ≡ ends (answer (field_at st.heap r.0 k)) st
+  list_item y i k number inside =
+      planned around at n.ListIndex (At r ∷ y ∷ []) st (field_at st.heap r.0 k) 2 refl refl
+      (two_units around st.heap (At r ∷ y ∷ []) (no_text (slice_get st.heap.objects r.0) fixed is_list) (no_units around st.heap y i number))
+      (λ ts. ap (λ q. needs ArgumentError (fixed_of q) (λ fixed. of_list n.ListIndex st.heap r.0 fixed y Null)) is_list
+      ∙ ap (λ q. needs ArgumentError q (item st.heap r.0)) number ∙ ap (λ q. needs RangeError q (λ k. value (field_at st.heap r.0 k))) inside)
+
+  -- how many items a list has
+  pub list_length : native (setting_of around) at n.ListLength (At r ∷ []) st ≡ ends (answer (integer_value (pos (length_of (slice_get st.heap.objects r.0))))) st
+  list_length =
+      planned around at n.ListLength (At r ∷ []) st (integer_value (pos (length_of (slice_get st.heap.objects r.0)))) 1 refl refl
+      (one_unit around st.heap (At r ∷ []) (no_text (slice_get st.heap.objects r.0) fixed is_list))
+      (λ ts. ap (λ q. needs ArgumentError (fixed_of q) (λ fixed. of_list n.ListLength st.heap r.0 fixed Null Null)) is_list)

@@ -3,3 +3,4 @@ pub mod Outside
 pub mod Labels
 pub mod Frames
 pub mod Kinds
+pub mod Above

@@ -14,15 +14,15 @@ use Rattle.machine_frame.specs.declared.around.Around.{Around}
 -- the prelude's classes that natives know
 abbrev pub classes_of : Around → KnownClasses
 classes_of a = record {
-  null = a.known.now.null_class;
-  boolean = a.known.now.bool_class;
-  integer = a.known.now.int_class;
-  string = a.known.now.string_class;
-  list = a.known.now.list_class;
+  null = a.setup.now.known.null_class;
+  boolean = a.setup.now.known.bool_class;
+  integer = a.setup.now.known.int_class;
+  string = a.setup.now.known.string_class;
+  list = a.setup.now.known.list_class;
   function = a.program.now.classes.function;
-  type_class = a.known.now.type_class;
-  send_port = a.known.now.send_port_class;
-  receive_port = a.known.now.receive_port_class;
+  type_class = a.setup.now.known.type_class;
+  send_port = a.setup.now.known.send_port_class;
+  receive_port = a.setup.now.known.receive_port_class;
 }
 
 -- what natives read of the program

@@ -1,11 +1,17 @@
 -- What stands around a run: the setting of the evaluation, and what follows a value that comes to a site.
-use Rattle.std.specs.Prelude.{ℕ, None}
+use Rattle.std.specs.Borrow.{Bor}
+use Rattle.std.specs.Prelude.{◌≡◌, ◌⊎◌, ℕ, List, true, Option, Some, None}
 use Rattle.dart_ir.specs.declared.kind.ThrowKind.{ThrowKind}
 use Rattle.dart_ir.specs.declared.kind.ThrowKind.TheVariants as kind
+use Rattle.dart_ir.specs.declared.value.Value.{Value}
+use Rattle.dart_ir.specs.Ty.{Ty}
+use Rattle.dart_store.specs.Heap.{Heap}
+use Rattle.core_program.specs.declared.program.CoreProgram.{CoreProgram}
 use Rattle.core_program.specs.ProgramView as v
 use Rattle.type_test.specs.Test.{is_subtype}
 use Rattle.evaluation.specs.State.{Known, Setting, World}
-use Rattle.evaluation.specs.Checks.{Checking, lets_pass, world}
+use Rattle.evaluation.specs.Checks.{Checking, OnFailure, lets_pass, passes, reports, world}
+use Rattle.evaluation.specs.Values.{head_of}
 use Rattle.machine_frame.specs.declared.around.ErrorClasses.{ErrorClasses}
 use Rattle.machine_frame.specs.declared.around.KnownNumbers.{KnownNumbers}
 use Rattle.machine_frame.specs.declared.around.Around.{Around}
@@ -56,16 +62,37 @@ abbrev pub setting_of : Around → Setting
 setting_of a = record {
   program = v.program a.program.now;
   names = a.program.now.names;
-  known = known_of a.known.now;
+  known = known_of a.setup.now.known;
   is_subtype = is_subtype a.program.now.classes;
   natives = natives a;
-  isolate = a.isolate;
+  isolate = a.setup.now.isolate;
   parcel_cost = λ h v. None;
 }
 
-abbrev pub checking_of : Around → Checking
-checking_of a = record { program = v.program a.program.now; bool_class = a.known.now.bool_class.0; is_subtype = is_subtype a.program.now.classes }
+-- ---- checks
 
--- the world of a run in production, in which calls may nest so deep
+-- the program with annotations, where there is one; in production none is asked
+abbrev pub annotated_or : CoreProgram → Option (Bor CoreProgram) → CoreProgram
+annotated_or x None = x
+annotated_or x (Some y) = y.now
+
+abbrev pub checking_of : Around → Checking
+checking_of a = record {
+  program = v.program (annotated_or a.program.now a.setup.now.annotated);
+  bool_class = a.setup.now.known.bool_class.0;
+  is_subtype = is_subtype a.program.now.classes;
+}
+
+-- in production a check that fails changes nothing; in checked mode it is reported, and an error thrown
+abbrev pub failing : Option (Bor CoreProgram) → OnFailure
+failing None = lets_pass
+failing (Some x) = reports
+
+-- the world of a run, in which calls may nest so deep
 abbrev pub world_in : Around → ℕ → World
-world_in a depth = world (checking_of a) (setting_of a) lets_pass depth
+world_in a depth = world (checking_of a) (setting_of a) (failing a.setup.now.annotated) depth
+
+-- The value goes on from the site: in production, or since it passes the check whatever type arguments are in scope.
+abbrev pub IsAdmitted : Around → Heap → ℕ → Value → Type 0
+IsAdmitted a h number v =
+    (a.setup.now.annotated ≡ None) ⊎ ((args : List Ty) → passes (checking_of a) number (head_of (setting_of a) h v) args ≡ true)

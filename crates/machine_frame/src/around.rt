@@ -4,6 +4,7 @@
 use core_program::program::CoreProgram;
 use dart_base::name::Name;
 use dart_ir::number::ClassId;
+use machine_lookup::linked::Linked;
 use std::alloc::AllocError;
 use thiserror::Error;
 
@@ -71,10 +72,20 @@ pub struct KnownNumbers {
     pub no_such_method: Name,
 }
 
-/// The program that runs, the numbers of the prelude's classes and names in it, and the number of the isolate.
+/// What a run is set up with, beside the program that runs.
+#[derive(Clone, Copy)]
+pub struct Setup<'a> {
+    /// The numbers of the prelude's classes and names in the program.
+    pub known: KnownNumbers,
+    /// The number of the isolate.
+    pub isolate: u32,
+    /// The program with what its annotations ask for, by which values are checked; none in production, where none is.
+    pub annotated: Option<&'a CoreProgram>,
+}
+
+/// The program that runs, and what it is set up with. Two references, so that it is passed in registers.
 #[derive(Clone, Copy)]
 pub struct Around<'a> {
-    pub program: &'a CoreProgram,
-    pub known: &'a KnownNumbers,
-    pub isolate: u32,
+    pub program: &'a Linked,
+    pub setup: &'a Setup<'a>,
 }

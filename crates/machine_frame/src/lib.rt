@@ -5,5 +5,6 @@ pub mod around;
 pub mod moves;
 pub mod objects;
 pub mod run;
+pub mod sites;
 pub mod stacks;
 pub mod variables;

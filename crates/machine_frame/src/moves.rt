@@ -1,13 +1,13 @@
 // Moves of the machine that all forms share.
-ghost use Rattle.std.specs.Prelude.{◌≡◌, ◌<◌, ◌+◌, ◌∷◌, [], Some, None, true, false, length, IfOk};
+ghost use Rattle.std.specs.Prelude.{◌≡◌, ◌<◌, ◌+◌, Some, None, true, false, length, IfOk};
 ghost use Rattle.dart_ir.specs.declared.value.Value.TheVariants.{Null};
 ghost use Rattle.core_program.specs.View as v;
 ghost use Rattle.evaluation.specs.State.{Outcome, Completion, answer, ends};
-ghost use Rattle.evaluation.specs.Sequence.{on_answer, in_order, branch};
-ghost use Rattle.evaluation.specs.Evaluation.{eval, evals, part};
+ghost use Rattle.evaluation.specs.Sequence.{on_answer, branch};
+ghost use Rattle.evaluation.specs.Evaluation.{eval, part};
 ghost use Rattle.evaluation.specs.Variables as x;
 ghost use Rattle.machine_frame.specs.Outside.{setting_of, world_in};
-ghost use Rattle.machine_frame.specs.Frames.{seen, below_of, below, resume, resumed, going, does, frame_weight, room, work, mute, forms_of};
+ghost use Rattle.machine_frame.specs.Frames.{seen, below_of, below, resume, resumed, going, does, frame_weight, room, work, mute};
 
 use crate::around::{Around, Fault};
 use crate::run::{Control, Exit, Frame, Limit, Run};
@@ -15,7 +15,7 @@ use crate::stacks::push_frame;
 use crate::variables::declare;
 use core_program::form::{Core, Part};
 use dart_ir::value::Value;
-use machine_lookup::row::{first_form, is_true};
+use machine_lookup::row::is_true;
 
 /// Puts a frame to wait for a form.
 #[inline(always)]
@@ -53,25 +53,6 @@ pub fn enter_part<'a>(run: &mut Run<'a>, a: Around<'a>, one: &'a Part) -> Result
     match one {
         Part::Missing => Ok(answer(run, a, Value::Null)),
         Part::Given(core) => Ok(Control::Enter(core)),
-    }
-}
-
-/// The next of some forms in order, or the answer of the last one.
-pub fn go_on<'a>(
-    run: &mut Run<'a>,
-    a: Around<'a>,
-    forms: &'a [Core],
-    last: Value,
-) -> Result<Control<'a>, Fault>
-    ensures meaning { IfOk result (λ c. going a.entry run.new c ≡ does a.entry run.old (λ w. in_order (evals false (forms_of forms.now) w) last)) }
-    ensures less { IfOk result (λ c. work run.new c < room run.old + 6) }
-{
-    match first_form(forms) {
-        None => Ok(answer(run, a, last)),
-        Some((first, rest)) => {
-            push_frame(run, Frame::Rest(rest))?;
-            Ok(Control::Enter(first))
-        }
     }
 }
 

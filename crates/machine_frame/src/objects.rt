@@ -68,12 +68,12 @@ pub fn make_error(
     kind: ThrowKind,
     message: Value,
 ) -> Result<Option<Value>, Fault>
-    ensures thrown { IfOk result (λ made. throw_new (known_of a.entry.known.now) at kind message (seen run.old) ≡ ends (thrown_or_full made at) (seen run.new)) }
+    ensures thrown { IfOk result (λ made. throw_new (known_of a.entry.setup.now.known) at kind message (seen run.old) ≡ ends (thrown_or_full made at) (seen run.new)) }
     ensures beside { IfOk result (λ made. IsBeside run.old run.new) }
 {
     let mut fields = Values::new(run.alloc);
     fields.push(message)?;
-    let class = error_class(&a.known.errors, kind);
+    let class = error_class(&a.setup.known.errors, kind);
     put_object(
         run,
         Object::Instance {
@@ -114,11 +114,11 @@ pub fn class_of(run: &Run, a: Around, value: Value) -> u32
     ensures { class_of (setting_of a.entry) run.now.store value ≡ Some result }
 {
     match value {
-        Value::Null => a.known.null_class.0,
-        Value::Bool(_) => a.known.bool_class.0,
-        Value::Int { high: _, low: _ } => a.known.int_class.0,
-        Value::Literal(_) => a.known.string_class.0,
-        Value::Code(_) => a.program.classes.function.0,
+        Value::Null => a.setup.known.null_class.0,
+        Value::Bool(_) => a.setup.known.bool_class.0,
+        Value::Int { high: _, low: _ } => a.setup.known.int_class.0,
+        Value::Literal(_) => a.setup.known.string_class.0,
+        Value::Code(_) => a.program.core().classes.function.0,
         Value::At(r) => kind_class(a, run.store.kind(r)),
     }
 }
@@ -128,18 +128,18 @@ fn kind_class(a: Around, kind: Kind) -> u32
 {
     match kind {
         Kind::Instance(class) => class.0,
-        Kind::List(_) => a.known.list_class.0,
-        Kind::Text => a.known.string_class.0,
-        Kind::Closure(_) => a.program.classes.function.0,
-        Kind::Bound(_) => a.program.classes.function.0,
-        Kind::TypeValue => a.known.type_class.0,
+        Kind::List(_) => a.setup.known.list_class.0,
+        Kind::Text => a.setup.known.string_class.0,
+        Kind::Closure(_) => a.program.core().classes.function.0,
+        Kind::Bound(_) => a.program.core().classes.function.0,
+        Kind::TypeValue => a.setup.known.type_class.0,
         Kind::SendPort {
             isolate: _,
             port: _,
-        } => a.known.send_port_class.0,
-        Kind::ReceivePort { port: _ } => a.known.receive_port_class.0,
-        Kind::Cell => a.known.null_class.0,
-        Kind::Absent => a.known.null_class.0,
+        } => a.setup.known.send_port_class.0,
+        Kind::ReceivePort { port: _ } => a.setup.known.receive_port_class.0,
+        Kind::Cell => a.setup.known.null_class.0,
+        Kind::Absent => a.setup.known.null_class.0,
     }
 }
 

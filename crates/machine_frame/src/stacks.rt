@@ -16,6 +16,10 @@ pub fn push_frame<'a>(run: &mut Run<'a>, frame: Frame<'a>) -> Result<(), Fault>
     ensures pushed { IfOk result (λ _. run.new.frames.items ≡ run.old.frames.items ++ frame.entry ∷ []) }
     ensures stays { IfOk result (λ _. run.new ≡ record run.old { frames = run.new.frames }) }
 {
+    if run.frames.len() < run.frames.capacity() {
+        run.frames.push_reserved(frame);
+        return Ok(());
+    }
     match run.frames.push(frame) {
         Ok(()) => Ok(()),
         Err(_) => Err(Fault::Memory),
@@ -28,6 +32,10 @@ pub fn push_operand(run: &mut Run, value: Value) -> Result<(), Fault>
     ensures pushed { IfOk result (λ _. run.new.operands.items ≡ run.old.operands.items ++ value ∷ []) }
     ensures stays { IfOk result (λ _. run.new ≡ record run.old { operands = run.new.operands }) }
 {
+    if run.operands.len() < run.operands.capacity() {
+        run.operands.push_reserved(value);
+        return Ok(());
+    }
     match run.operands.push(value) {
         Ok(()) => Ok(()),
         Err(_) => Err(Fault::Memory),
@@ -60,6 +68,10 @@ pub fn push_body(run: &mut Run) -> Result<(), Fault>
     ensures stays { IfOk result (λ _. run.new ≡ record run.old { callers = run.new.callers }) }
 {
     let body = run.body;
+    if run.callers.len() < run.callers.capacity() {
+        run.callers.push_reserved(body);
+        return Ok(());
+    }
     match run.callers.push(body) {
         Ok(()) => Ok(()),
         Err(_) => Err(Fault::Memory),

@@ -22,7 +22,7 @@ fn captures_here<'a>(a: Around<'a>, source: Source) -> &'a [u32]
     ensures { result.now ≡ taken_along (setting_of a.entry) (source_of source) }
 {
     match source {
-        Source::Function(f) => function_captures(a.program, f),
+        Source::Function(f) => function_captures(a.program.core(), f),
         Source::Initialiser(_) => &[],
     }
 }
@@ -32,8 +32,8 @@ fn cells_here<'a>(a: Around<'a>, source: Source) -> &'a [u32]
     ensures { result.now ≡ own_cells (setting_of a.entry) (source_of source) }
 {
     match source {
-        Source::Function(f) => function_cells(a.program, f),
-        Source::Initialiser(d) => static_cells(a.program, d),
+        Source::Function(f) => function_cells(a.program.core(), f),
+        Source::Initialiser(d) => static_cells(a.program.core(), d),
     }
 }
 

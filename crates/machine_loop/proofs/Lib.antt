@@ -1,3 +1,6 @@
 pub mod Turned
-pub mod Operands
 pub mod Operated
+pub mod Got
+pub mod Listed
+pub mod Written
+pub mod Ordered

@@ -1,5 +1,5 @@
 -- Operators that are natives of numbers: what a call of one comes to.
-use Rattle.std.proofs.Common.{◌≡◌, ◌≢◌, ℕ, zero, suc, ◌+◌, ◌-◌, ◌≤◌, ◌<◌, nat_le, ◌==◌, not, List, [], ◌∷◌, length, replicate, Bool, true, false, ◌&&◌, nat_eq, nat_lt, Option, Some, None, IfSome, cond, position, is_some, slice_index_or, slice_set, map, refl, sym, ap, ◌∙◌, arith}
+use Rattle.std.proofs.Common.{◌≡◌, ◌≢◌, ℕ, zero, suc, ◌+◌, ◌-◌, ◌≤◌, ◌<◌, nat_le, ◌==◌, not, List, [], ◌∷◌, length, replicate, Bool, true, false, ◌&&◌, nat_eq, nat_lt, Option, Some, None, IfSome, cond, position, is_some, slice_index_or, slice_set, map, refl, sym, subst, ap, ◌∙◌, arith}
 use Rattle.std.proofs.lemmas.Bool.{eqb-true, ltb-true}
 use Rattle.std.proofs.lemmas.List.{get_or-set_same, length-replicate}
 use Rattle.std.proofs.lemmas.Option.{none-some, same_Some}
@@ -26,6 +26,7 @@ use Rattle.core_program.specs.declared.form.Form.TheViews.{out-Core, out-Argumen
 use Rattle.core_program.specs.declared.form.Job.{Job}
 use Rattle.core_program.specs.declared.form.Leaf.{Leaf}
 use Rattle.core_program.specs.declared.form.Job.TheVariants as j
+use Rattle.core_program.specs.declared.form.Unary.{Unary}
 use Rattle.core_program.specs.declared.form.Unary.TheVariants as of_one
 use Rattle.core_program.specs.View as v
 use Rattle.core_program.proofs.Views.{core_out, view_row, view_binary, view_unary, view_leaf, arguments_out}
@@ -36,50 +37,53 @@ use Rattle.evaluation.specs.State.{Event, State, Activation, Source, a_function,
 use Rattle.evaluation.specs.Sequence.{on_answer, on_answers, chosen}
 use Rattle.evaluation.specs.Arguments.{alone, is_required, is_named, one_if, fit, fits, value_by}
 use Rattle.evaluation.specs.Classes.{function_at, member, member_at, member_function, member_owner}
-use Rattle.evaluation.specs.Values.{head_of, arguments_here}
+use Rattle.evaluation.specs.Values.{class_of, head_of, arguments_here}
 use Rattle.evaluation.specs.Externals.{native}
 use Rattle.evaluation.specs.Parts.{form_of, is_block_part, is_closure, is_join, takes_step}
-use Rattle.evaluation.specs.Checks.{lets_pass, passes, reaction}
+use Rattle.evaluation.specs.Checks.{reaction}
 use Rattle.evaluation.specs.Variables.{function_cells, function_captures, has_cell, own_room, room_at, value_in, variable, with_slot, declared, declare}
-use Rattle.evaluation.specs.Evaluation.{eval, evals, act, part, row, binary, before_operand, site, binding, bind_one, returned, activation, body_of, world_over, nested}
-use Rattle.evaluation.specs.Invocation.{leaving, receiving, member_fits, member_call, missing_from, fitting, sent, send_from, send, equal}
+use Rattle.evaluation.specs.Evaluation.{eval, evals, act, part, row, unary, binary, before_operand, site, binding, bind_one, returned, activation, body_of, world_over, nested}
+use Rattle.evaluation.specs.Invocation.{leaving, receiving, member_fits, member_call, missing_from, fitting, sent, send_from, send, get, equal}
 use Rattle.machine_frame.specs.declared.around.Around.{Around}
 use Rattle.machine_frame.specs.declared.run.Run.{Run}
-use Rattle.machine_frame.specs.Outside.{checking_of, setting_of, world_in}
+use Rattle.machine_frame.specs.Outside.{checking_of, failing, setting_of, world_in, IsAdmitted}
 use Rattle.machine_frame.specs.Frames.{seen, below_of, resume, does, does_row, mute}
 use Rattle.evaluation.proofs.Kept.{Kept, Keeps, kept_logic}
 use Rattle.evaluation.proofs.Logic.{answers, on_answers_rel}
-use Rattle.machine_frame.proofs.Mute.{quiet, passes_by, keeps_mute, form_kept, rows, going_on, binary_kept, row_keeps, site_kept, site_passes}
+use Rattle.machine_frame.proofs.Mute.{quiet, admitted, keeps_mute, form_kept, rows, going_on, unary_kept, binary_kept, row_keeps, site_kept, site_admitted}
 use Rattle.machine_frame.proofs.Natives.{native_gives, integers_equal}
 use Rattle.machine_frame.proofs.Quick.{two_answers, leaf_enters, row_enters}
 use Rattle.machine_frame.proofs.Resume.{calls_suc}
 use Rattle.machine_frame.proofs.Steps.{binding_begins, form_enters}
 use Rattle.machine_lookup.specs.Rows.{but_last}
-use Rattle.machine_loop.specs.Operator.{is_this, is_this_leaf, reads, reads_leaf, are_operands, native_of_job, native_of_form, native_of_body, native_over, is_none, native_of, native_of_function, native_of_member, operator, AnswersAtOnce}
+use Rattle.machine_lookup.specs.declared.linked.Found.{Found}
+use Rattle.machine_lookup.specs.Found.{IsFound}
+use Rattle.machine_lookup.specs.Shapes.{is_this, is_this_leaf, reads, reads_leaf, are_operands, native_of_job, native_of_form, native_of_body, native_over, is_none, native_of, native_of_function, native_of_member, operator}
+use Rattle.machine_loop.specs.Operator.{AnswersAtOnce, IsTaken, site_of_member, site_of_function, site_of_parameters}
 
 -- so many steps less
 abbrev less : ℕ → State → State
 less n st = record st { left = st.left - n }
 
-chosen_some : (b : Bool) (o : Option NativeId) (id : NativeId) → cond b o None ≡ Some id → (b ≡ true) × (o ≡ Some id)
+pub chosen_some : {A : Type 0} (b : Bool) (o : Option A) (id : A) → cond b o None ≡ Some id → (b ≡ true) × (o ≡ Some id)
 chosen_some true o id e = (refl, e)
 chosen_some false o id e = absurd (none-some id e)
 
-both_true : (b d : Bool) → b && d ≡ true → (b ≡ true) × (d ≡ true)
+pub both_true : (b d : Bool) → b && d ≡ true → (b ≡ true) × (d ≡ true)
 both_true true d e = (refl, e)
 both_true false d e = absurd (cc)
 
-none_of : (xs : List ℕ) → is_none xs ≡ true → xs ≡ []
+pub none_of : (xs : List ℕ) → is_none xs ≡ true → xs ≡ []
 none_of [] e = refl
 none_of (x ∷ xs) e = absurd (cc)
 
-required_is : (s : Shape) → is_required s ≡ true → s ≡ Required
+pub required_is : (s : Shape) → is_required s ≡ true → s ≡ Required
 required_is Required e = refl
 required_is s e = absurd (cc)
 
 -- ---- bodies that are natives
 
-of_job : (job : c.Job ℕ) (id : NativeId) → native_of_job job ≡ Some id → job ≡ c.native id
+pub of_job : (job : c.Job ℕ) (id : NativeId) → native_of_job job ≡ Some id → job ≡ c.native id
 of_job (c.native other) id e = ap c.native (same_Some other id e)
 of_job job id e = absurd (none-some id e)
 
@@ -87,7 +91,7 @@ is_this_leaf_of : (leaf : c.Leaf ℕ) → is_this_leaf leaf ≡ true → leaf �
 is_this_leaf_of c.this e = refl
 is_this_leaf_of leaf e = absurd (cc)
 
-is_this_of : (form : c.Form ℕ) → is_this form ≡ true → form ≡ c.leaf c.this
+pub is_this_of : (form : c.Form ℕ) → is_this form ≡ true → form ≡ c.leaf c.this
 is_this_of (c.leaf leaf) e = ap c.leaf (is_this_leaf_of leaf e)
 is_this_of form e = absurd (cc)
 
@@ -95,7 +99,7 @@ reads_leaf_of : (leaf : c.Leaf ℕ) (x : ℕ) → reads_leaf leaf x ≡ true →
 reads_leaf_of (c.read y) x e = ap c.read (eqb-true y x e)
 reads_leaf_of leaf x e = absurd (cc)
 
-reads_of : (form : c.Form ℕ) (x : ℕ) → reads form x ≡ true → form ≡ c.leaf (c.read x)
+pub reads_of : (form : c.Form ℕ) (x : ℕ) → reads form x ≡ true → form ≡ c.leaf (c.read x)
 reads_of (c.leaf leaf) x e = ap c.leaf (reads_leaf_of leaf x e)
 reads_of form x e = absurd (cc)
 
@@ -158,16 +162,12 @@ module _ (around : Around) (d : ℕ) where
       ∙ ap (λ z. ends (answer z) (less 3 st)) h)
       (n b.at (less 3 st) refl))
 
-  -- ---- the call of a function that is an operator
+  -- ---- the call of a function of one parameter, none of whose variables has a cell
 
-  module _ (f : ℕ) (one : Function ℕ) (q : Parameter ℕ) (id : NativeId) (found : function_at (setting_of around).program f ≡ Some one)
-      (takes : one.parameters ≡ q ∷ []) (required : q.shape ≡ Required) (slots : q.var < one.vars) (no_cells : one.cells ≡ []) (no_captures : one.captures ≡ [])
-      (body : native_of_body one.body q.var ≡ Some id) where
-    is_no_block : is_block_part one.body ≡ false
-    is_no_block = ap is_block_part (native_is one.body q.var id body).is
-
+  module _ (f : ℕ) (one : Function ℕ) (q : Parameter ℕ) (found : function_at (setting_of around).program f ≡ Some one)
+      (takes : one.parameters ≡ q ∷ []) (required : q.shape ≡ Required) (slots : q.var < one.vars) (no_cells : one.cells ≡ []) (no_captures : one.captures ≡ []) where
     module _ (callee : Callee) (v : Value) where
-      abbrev bound : Activation
+      abbrev pub bound : Activation
       bound = with_slot (activation f one.vars callee) q.var v
 
       without_cell : (z : Activation) → z.source ≡ a_function f → has_cell (setting_of around) z q.var ≡ false
@@ -176,7 +176,7 @@ module _ (around : Around) (d : ℕ) where
           ∙ ap (λ o. is_some (position (nat_eq q.var) (function_cells o))) found ∙ ap (λ xs. is_some (position (nat_eq q.var) xs)) no_cells
 
       -- the parameter is a variable with the value
-      reads_back : (st : State) → st.activation ≡ bound → variable (setting_of around) (now st) q.var ≡ v
+      pub reads_back : (st : State) → st.activation ≡ bound → variable (setting_of around) (now st) q.var ≡ v
       reads_back st e =
           ap (λ z. variable (setting_of around) (record (now st) { activation = z }) q.var) e
           ∙ ap (λ o. value_in st.heap bound (room_at (position (nat_eq q.var) (function_captures o)) (setting_of around) st.heap bound q.var)) found
@@ -185,38 +185,45 @@ module _ (around : Around) (d : ℕ) where
           ∙ get_or-set_same (replicate one.vars Null) q.var v Null
           (let h : q.var < length (replicate one.vars Null) = omega (arith, slots, length-replicate one.vars Null) in h)
 
-      abbrev event : State → ℕ → ℕ → Event
+      abbrev pub event : State → ℕ → ℕ → Event
       event st = tested q.site (head_of (setting_of around) st.heap v) (arguments_here (setting_of around) (now st))
 
       -- entered with the value, which has passed its site
-      abbrev entered : State → State
+      abbrev pub entered : State → State
       entered st =
           let st' = less 1 (record st { activation = activation f one.vars callee }) in
           record (with_event st' (event st')) { activation = bound }
 
       -- its body, and the caller's activation behind it
-      body_does : (u : Value) (st : State) → 4 ≤ st.left → AnswersAtOnce around id callee.this v st.heap u
-          → body_of (Some one) f W callee (alone v) st ≡ ends (answer u) (record (less 3 (entered st)) { activation = st.activation })
-      body_does u st l n =
+      pub body_goes : (u : Value) (end st : State) → IsAdmitted around st.heap q.site v → st.left ≢ 0 → is_block_part one.body ≡ false → part one.body W Null (entered st) ≡ ends (answer u) end
+          → body_of (Some one) f W callee (alone v) st ≡ ends (answer u) (record end { activation = st.activation })
+      body_goes u end st goes_on l no_block goes =
           let b = is_block_part one.body in
           let go = part one.body W Null in
           let first = record st { activation = activation f one.vars callee } in
           let st' = less 1 first in
           let come = with_event st' (event st') in
           ap (λ qs. returned b st.activation (binding W (alone v) qs 0 go first)) takes
-          ∙ ap (returned b st.activation) (binding_begins W (alone v) q [] 0 go first (let h : st.left ≢ 0 = omega (arith, l) in h)
+          ∙ ap (returned b st.activation) (binding_begins W (alone v) q [] 0 go first l
           ∙ ap (λ (s : Shape). on_answer (λ _. go) (on_answer (declare (setting_of around) q.var) (site W q.site (value_by s (alone v) 0 q) st'))) required
           ∙ ap (λ o. on_answer (λ _. go) (on_answer (declare (setting_of around) q.var) o))
-          (passes_by (passes (checking_of around) q.site (head_of (setting_of around) st'.heap v) (arguments_here (setting_of around) (now st'))) around q.site v come)
+          (admitted around st.heap q.site v (arguments_here (setting_of around) (now st')) come goes_on)
           ∙ ap (λ c. on_answer (λ _. go) (declared c q.var v come)) (without_cell (activation f one.vars callee) refl)
-          ∙ body_answers one.body q.var id v u (entered st) body (let h : 3 ≤ st.left - 1 = omega (arith, l) in h) (reads_back (less 2 (entered st)) refl) n)
-          ∙ ap (λ c. returned c st.activation (ends (answer u) (less 3 (entered st)))) is_no_block
+          ∙ goes)
+          ∙ ap (λ c. returned c st.activation (ends (answer u) end)) no_block
 
-fit_one : (q : Parameter ℕ) (v : Value) → q.shape ≡ Required → fit (q ∷ []) (alone v) ≡ true
+      -- that of a function that is an operator
+      body_does : (id : NativeId) (body : native_of_body one.body q.var ≡ Some id) (u : Value) (st : State) → IsAdmitted around st.heap q.site v → 4 ≤ st.left
+          → AnswersAtOnce around id callee.this v st.heap u → body_of (Some one) f W callee (alone v) st ≡ ends (answer u) (record (less 3 (entered st)) { activation = st.activation })
+      body_does id body u st goes_on l n =
+          body_goes u (less 3 (entered st)) st goes_on (let h : st.left ≢ 0 = omega (arith, l) in h) (ap is_block_part (native_is one.body q.var id body).is)
+          (body_answers one.body q.var id v u (entered st) body (let h : 3 ≤ st.left - 1 = omega (arith, l) in h) (reads_back (less 2 (entered st)) refl) n)
+
+pub fit_one : (q : Parameter ℕ) (v : Value) → q.shape ≡ Required → fit (q ∷ []) (alone v) ≡ true
 fit_one q v e = ap (λ (s : Shape). nat_le (one_if (is_required s) + 0) 1 && (nat_le 1 (one_if (not (is_named s)) + 0) && true)) e
 
-module _ (around : Around) (d name k : ℕ) (this v u : Value) (id : NativeId) (st : State) (h : d ≢ 0) (l : 4 ≤ st.left)
-    (n : AnswersAtOnce around id this v st.heap u) (at : Place) where
+module _ (around : Around) (d name k : ℕ) (this v u : Value) (id : NativeId) (st : State) (taken : IsTaken around st.heap k name v) (h : d ≢ 0)
+    (l : 4 ≤ st.left) (n : AnswersAtOnce around id this v st.heap u) (at : Place) where
   abbrev P : Program ℕ
   P = (setting_of around).program
 
@@ -224,10 +231,10 @@ module _ (around : Around) (d name k : ℕ) (this v u : Value) (id : NativeId) (
   abbrev there : Outcome
   there = mute (ends (answer u) (less 4 st))
 
-  by_parameters : (m : ℕ) (one : Function ℕ) (qs : List (Parameter ℕ)) → function_at P (member_function (member_at P m)) ≡ Some one → one.parameters ≡ qs
+  by_parameters : (m : ℕ) (one : Function ℕ) (qs : List (Parameter ℕ)) → member P (Some k) name Method ≡ Some m → function_at P (member_function (member_at P m)) ≡ Some one → one.parameters ≡ qs
       → is_none one.cells && is_none one.captures ≡ true → native_over qs one ≡ Some id
       → mute (fitting (world_in around d) at (Some k) Method name this (alone v) m st) ≡ there
-  by_parameters m one (q ∷ []) found takes none x =
+  by_parameters m one (q ∷ []) listed found takes none x =
       let S = setting_of around in
       let w = world_in around d in
       let f = member_function (member_at P m) in
@@ -236,51 +243,48 @@ module _ (around : Around) (d name k : ℕ) (this v u : Value) (id : NativeId) (
       let y = chosen_some (is_required q.shape && nat_lt q.var one.vars) (native_of_body one.body q.var) id x in
       let z = both_true (is_required q.shape) (nat_lt q.var one.vars) y.0 in
       let required = required_is q.shape z.0 in
+      let goes_on = taken q.site (ap (site_of_member P) listed ∙ ap site_of_function found ∙ ap site_of_parameters takes) in
       ap (λ b. mute (chosen b (member_call w at m this (alone v)) (missing_from w at (Some k) Method name this (alone v)) st))
       (ap (λ o. fits o (alone v)) found ∙ ap (λ qs. fit qs (alone v)) takes ∙ fit_one q v required)
-      ∙ ap (λ o. mute (leaving at o)) (calls_suc S (reaction (checking_of around) S lets_pass) d f callee (alone v) st h
+      ∙ ap (λ o. mute (leaving at o)) (calls_suc S (reaction (checking_of around) S (failing around.setup.now.annotated)) d f callee (alone v) st h
       ∙ ap (λ o. body_of o f (world_in around (d - 1)) callee (alone v) st) found
-      ∙ body_does around (d - 1) f one q id found takes required (ltb-true q.var one.vars z.1) (none_of one.cells cells.0) (none_of one.captures cells.1) y.1 callee v u st l n)
+      ∙ body_does around (d - 1) f one q found takes required (ltb-true q.var one.vars z.1) (none_of one.cells cells.0) (none_of one.captures cells.1) callee v id y.1 u st goes_on l n)
       ∙ ap (λ m. ends (answer u) (record st { left = m; events = [] })) (let e : st.left - 1 - 3 ≡ st.left - 4 = omega arith in e)
-  by_parameters m one qs found takes none x = absurd (cc)
+  by_parameters m one qs listed found takes none x = absurd (cc)
 
-  by_function : (m : ℕ) (o : Option (Function ℕ)) → function_at P (member_function (member_at P m)) ≡ o → native_of_function o ≡ Some id
+  by_function : (m : ℕ) (o : Option (Function ℕ)) → member P (Some k) name Method ≡ Some m → function_at P (member_function (member_at P m)) ≡ o → native_of_function o ≡ Some id
       → mute (fitting (world_in around d) at (Some k) Method name this (alone v) m st) ≡ there
-  by_function m None found x = absurd (none-some id x)
-  by_function m (Some one) found x =
+  by_function m None listed found x = absurd (none-some id x)
+  by_function m (Some one) listed found x =
       let y = chosen_some (is_none one.cells && is_none one.captures) (native_over one.parameters one) id x in
-      by_parameters m one one.parameters found refl y.0 y.1
+      by_parameters m one one.parameters listed found refl y.0 y.1
 
   by_member : (o : Option ℕ) → member P (Some k) name Method ≡ o → native_of_member P o ≡ Some id
       → mute (send_from (world_in around d) at (Some k) name this (alone v) st) ≡ there
   by_member None e x = absurd (none-some id x)
   by_member (Some m) e x =
       ap (λ o. mute (sent (world_in around d) at (Some k) name this (alone v) o (member P (Some k) name Getter) st)) e
-      ∙ by_function m (function_at P (member_function (member_at P m))) refl x
+      ∙ by_function m (function_at P (member_function (member_at P m))) e refl x
 
 -- a native of numbers that answers a value
 pub number_at_once : (around : Around) (id : NativeId) (x y : Value) (h : Heap) (u : Value) → number_native id x y ≡ Some (a.Value u) → AnswersAtOnce around id x y h u
 number_at_once around id x y h u n at st e = native_gives around at id x y st u n
 
-pub equal_at_once : (around : Around) (high low other_high other_low : ℕ) (h : Heap)
-    → AnswersAtOnce around n.ObjectEqual (Int high low) (Int other_high other_low) h (Truth (high == other_high && low == other_low))
-equal_at_once around high low other_high other_low h at st e = integers_equal around at high low other_high other_low st
+-- an operator of an object of class k, which surely takes the value
+pub operated : (around : Around) (d name k : ℕ) (this v u : Value) (id : NativeId) (st : State) → IsTaken around st.heap k name v → d ≢ 0 → 4 ≤ st.left
+    → class_of (setting_of around) st.heap this ≡ Some k → operator (setting_of around).program k name ≡ Some id → AnswersAtOnce around id this v st.heap u → (at : Place)
+    → mute (send (world_in around d) at name this (alone v) st) ≡ mute (ends (answer u) (less 4 st))
+operated around d name k this v u id st taken h l is_of x n at =
+    ap (λ o. mute (send_from (world_in around d) at o name this (alone v) st)) is_of
+    ∙ by_member around d name k this v u id st taken h l n at (member (setting_of around).program (Some k) name Method) refl x
 
--- an operator of an integer
-pub operated : (around : Around) (d name high low : ℕ) (v u : Value) (id : NativeId) (st : State) → d ≢ 0 → 4 ≤ st.left
-    → operator (setting_of around).program (setting_of around).known.int_class name ≡ Some id → AnswersAtOnce around id (Int high low) v st.heap u → (at : Place)
-    → mute (send (world_in around d) at name (Int high low) (alone v) st) ≡ mute (ends (answer u) (less 4 st))
-operated around d name high low v u id st h l x n at =
-    by_member around d name (setting_of around).known.int_class (Int high low) v u id st h l n at
-    (member (setting_of around).program (Some (setting_of around).known.int_class) name Method) refl x
-
--- operands that are answered at once, and what is done with them
-pub two_sent : (w : World) (at : Place) (name : ℕ) (first second : c.Core ℕ) (st st' st'' : State) (x y : Value) (o : Outcome)
-    → eval first w st ≡ ends (answer x) st' → eval second w st' ≡ ends (answer y) st'' → mute (send w at name x (alone y) st'') ≡ o
-    → mute (on_answers (row w at (c.send name) []) (evals false (c.core_more first (c.core_more second c.no_cores)) w) [] st) ≡ o
-two_sent w at name first second st st' st'' x y o ex ey e =
-    ap (λ o. mute (on_answer (λ v. on_answers (row w at (c.send name) []) (evals false (c.core_more second c.no_cores) w) (v ∷ [])) o)) ex
-    ∙ ap (λ o. mute (on_answer (λ v. on_answers (row w at (c.send name) []) [] (x ∷ v ∷ [])) o)) ey ∙ e
+-- the operator that a table has found
+pub found_operator : (p : Program ℕ) (f : Found) (k name : ℕ) (id : NativeId) → IsFound p f → f.class ≡ k → f.name ≡ name → f.operator ≡ Some id
+    → operator p k name ≡ Some id
+found_operator p f k name id is_found class named e =
+    sym (ap (λ k. native_of_member p (member p (Some k) f.name Method)) class ∙ ap (λ n. native_of_member p (member p (Some k) n Method)) named)
+    ∙ sym (ap (native_of_member p) is_found.method)
+    ∙ subst (λ o. IfSome o (λ id. native_of_member p f.method ≡ Some id)) e is_found.operator
 
 -- the answer, where the operands at the end are no longer needed
 pub row_answered : (around : Around) (r : Run) (count left : ℕ) (u : Value) (m : World → Meaning)
@@ -365,11 +369,11 @@ module _ (around : Around) (d : ℕ) where
       (binary_of at (v.core first.value) (v.core second.value) (record st { left = st.left - 1 }) st' st'' x y o
       (ap (λ q. mute (eval (v.core q) V (record st { left = st.left - 1 }))) (sym is_one) ∙ ex) (ap (λ q. mute (eval (v.core q) V st')) (sym is_other) ∙ ey) (e at))
 
-  pub check_at_once : (core : Core) (number : SiteId) (box : Box Core) (inner : Core) (st : State) (x : Value) (left : ℕ)
+  pub check_at_once : (core : Core) (number : SiteId) (box : Box Core) (inner : Core) (st : State) (x : Value) (left : ℕ) → IsAdmitted around st.heap number.0 x
       → (out-Core core).form ≡ k.Unary (of_one.Check number) box → inner ≡ box.value → is_closure (form_of (v.core inner)) ≡ false → st.left ≢ 0
       → mute (eval (v.core inner) V (record st { left = st.left - 1 })) ≡ mute (ends (answer x) (record st { left = left }))
       → mute (eval (v.core core) V st) ≡ mute (ends (answer x) (record st { left = left }))
-  check_at_once core number box inner st x left form is bare h e =
+  check_at_once core number box inner st x left goes_on form is bare h e =
       let at = (out-Core core).place in
       let operand = v.core inner in
       let st' = record st { left = st.left - 1 } in
@@ -377,34 +381,29 @@ module _ (around : Around) (d : ℕ) where
       (core_out core ∙ ap (λ (x : Form). c.at at (v.form x)) form ∙ ap (c.at at) (view_unary (of_one.Check number) box) ∙ ap (λ q. c.at at (c.unary (c.check number.0) (v.core q))) (sym is)) refl h
       (ap (λ (b : Bool). mute (on_answer (site V number.0) (before_operand V b (c.check number.0) (eval operand V) st'))) bare
       ∙ goes (on_answer (site V number.0)) (going_on around d (site V number.0) (λ u. site_kept around d number.0 u)) (eval operand V st') (ends (answer x) (record st { left = left })) e
-      ∙ site_passes around d number.0 x (record st { left = left }))
+      ∙ site_admitted around d number.0 x (record st { left = left }) goes_on)
+
+  -- a form with one operand that is answered at once
+  pub unary_at_once : (core : Core) (one : Unary) (box : Box Core) (inner : Core) (st : State) (x : Value) (middle : ℕ) (o : Outcome)
+      → (out-Core core).form ≡ k.Unary one box → inner ≡ box.value → is_closure (form_of (v.core inner)) ≡ false → st.left ≢ 0
+      → mute (eval (v.core inner) V (record st { left = st.left - 1 })) ≡ mute (ends (answer x) (record st { left = middle }))
+      → ((at : Place) → mute (unary V at false (v.unary one) x (record st { left = middle })) ≡ o) → mute (eval (v.core core) V st) ≡ o
+  unary_at_once core one box inner st x middle o form is bare h e f =
+      let at = (out-Core core).place in
+      let operand = v.core inner in
+      let st' = record st { left = st.left - 1 } in
+      let u = v.unary one in
+      enters_as core at (c.unary u operand) st o
+      (core_out core ∙ ap (λ (x : Form). c.at at (v.form x)) form ∙ ap (c.at at) (view_unary one box) ∙ ap (λ q. c.at at (c.unary u (v.core q))) (sym is)) refl h
+      (ap (λ (b : Bool). mute (on_answer (unary V at b u) (before_operand V b u (eval operand V) st'))) bare
+      ∙ goes (on_answer (unary V at false u)) (going_on around d (unary V at false u) (λ x. unary_kept around d at false u x)) (eval operand V st') (ends (answer x) (record st { left = middle }))
+      e
+      ∙ f at)
 
 -- a native of numbers that answers a value
 pub native_done : (around : Around) (d : ℕ) (id : NativeId) (x y u : Value) (st : State) → number_native id x y ≡ Some (a.Value u) → (at : Place)
     → mute (row (world_in around d) at (c.native id) [] (x ∷ y ∷ []) st) ≡ mute (ends (answer u) st)
 native_done around d id x y u st n at = ap mute (native_gives around at id x y st u n)
-
--- ---- functions that are natives
-
-pub native_seen : (form : Form) (job : Job) (r : Arguments) (id : NativeId) (x : ℕ) (first second : Core) → form ≡ k.Row job r → job ≡ j.Native id
-    → (out-Arguments r).forms.items ≡ first ∷ second ∷ [] → (out-Arguments r).names.items ≡ []
-    → is_this (v.form (out-Core first).form) ≡ true → reads (v.form (out-Core second).form) x ≡ true → native_of_form (v.form form) x ≡ Some id
-native_seen form job r id x first second is native forms names this read =
-    ap (λ (q : Form). native_of_form (v.form q) x) is
-    ∙ ap (λ (q : c.Form ℕ). native_of_form q x) (view_row job r ∙ ap (λ (p : v.Row). c.row (v.job job) p.0 p.1) (arguments_out r)
-    ∙ ap (λ (l : List Core). c.row (v.job job) (c.cores (map v.core l)) (v.names (out-Arguments r).names.items)) forms
-    ∙ ap (λ (l : List Name). c.row (v.job job) (c.core_more (v.core first) (c.core_more (v.core second) c.no_cores)) (v.names l)) names)
-    ∙ ap (λ (y : c.Core ℕ). cond (is_this (form_of y) && reads (form_of (v.core second)) x) (native_of_job (v.job job)) None) (core_out first)
-    ∙ ap (λ (y : c.Core ℕ). cond (is_this (v.form (out-Core first).form) && reads (form_of y) x) (native_of_job (v.job job)) None) (core_out second)
-    ∙ ap (λ b. cond (b && reads (v.form (out-Core second).form) x) (native_of_job (v.job job)) None) this
-    ∙ ap (λ b. cond b (native_of_job (v.job job)) None) read
-    ∙ ap (λ q. native_of_job (v.job q)) native
-
-pub operands_seen : (first second : Core) (one other : Leaf) (x : ℕ) → (out-Core first).form ≡ k.Leaf one → (out-Core second).form ≡ k.Leaf other
-    → is_this_leaf (v.leaf one) ≡ true → reads_leaf (v.leaf other) x ≡ true
-    → (is_this (v.form (out-Core first).form) ≡ true) × (reads (v.form (out-Core second).form) x ≡ true)
-operands_seen first second one other x is_one is_other this read =
-    (ap (λ q. is_this (v.form q)) is_one ∙ ap is_this (view_leaf one) ∙ this, ap (λ q. reads (v.form q) x) is_other ∙ ap (λ q. reads q x) (view_leaf other) ∙ read)
 
 -- two values that are integers
 pub equal_is : (x y : Value) (high low other_high other_low : ℕ) (b : Bool) → x ≡ Int high low → y ≡ Int other_high other_low → (high == other_high && low == other_low) ≡ b

@@ -4,3 +4,4 @@
 pub mod loops;
 pub mod operators;
 pub mod quick;
+pub mod statements;

@@ -7,149 +7,36 @@ ghost use Rattle.core_program.specs.View as v;
 ghost use Rattle.evaluation.specs.Arguments.{alone};
 ghost use Rattle.core_program.specs.declared.form.Form.TheViews.{out-Arguments, out-Core};
 ghost use Rattle.evaluation.specs.Evaluation.{eval, row};
-ghost use Rattle.evaluation.specs.Invocation.{send, equal};
+ghost use Rattle.evaluation.specs.Invocation.{send, get, equal};
 ghost use Rattle.evaluation.specs.Parts.{is_join};
 ghost use Rattle.evaluation.specs.State.{Outcome, Completion, answer, ends};
 ghost use Rattle.dart_store.specs.Heap.{Heap};
 ghost use Rattle.machine_frame.specs.declared.around.Around.{Around as AroundOf};
 ghost use Rattle.machine_frame.specs.Outside.{world_in};
 ghost use Rattle.machine_frame.specs.Frames.{seen, mute};
-ghost use Rattle.machine_loop.specs.Operator.{is_this, is_this_leaf, reads, reads_leaf, native_of_form, native_of_body, native_of, native_of_function, native_of_member, operator, AnswersAtOnce};
+ghost use Rattle.machine_lookup.specs.Shapes.{operator};
+ghost use Rattle.machine_lookup.specs.Found.{reading};
+ghost use Rattle.machine_loop.specs.Operator.{AnswersAtOnce, ReadsAtOnce, IsReading, IsTaken, operand_site};
 
 use crate::quick::{leaf_quick, native_value};
-use core_program::form::{Arguments, Binary, Core, Form, Job, Leaf, Part, Unary};
-use core_program::program::{CoreProgram, Function};
+use core_program::form::{Arguments, Binary, Core, Form, Job, Unary};
 use dart_base::place::Place;
 use dart_ir::class::Role;
-use dart_ir::kind::Shape;
 use dart_ir::native::NativeId;
-use dart_ir::value::Value;
+use dart_ir::value::{Value, integer_value};
+use dart_store::store::{Kind, Store};
 use machine_frame::around::Around;
+use machine_frame::objects::{class_of, field_of};
 use machine_frame::run::Run;
-use machine_lookup::member::member;
+use machine_frame::sites::admits;
+use machine_lookup::linked::Linked;
 use machine_lookup::program::{function_at, is_closure, member_function};
 use machine_lookup::row::first_form;
-
-fn is_this(leaf: Leaf) -> bool
-    ensures { result ≡ is_this_leaf (v.leaf leaf) }
-{
-    match leaf {
-        Leaf::Const(_) => false,
-        Leaf::This => true,
-        Leaf::Read(_) => false,
-        Leaf::StaticRead(_) => false,
-        Leaf::Field(_) => false,
-        Leaf::Closure(_) => false,
-        Leaf::Jump(_, _) => false,
-        Leaf::Rethrow => false,
-        Leaf::Raise {
-            error: _,
-            name: _,
-            is_setter: _,
-        } => false,
-    }
-}
-
-fn reads(leaf: Leaf, var: u32) -> bool
-    ensures { result ≡ reads_leaf (v.leaf leaf) var }
-{
-    match leaf {
-        Leaf::Const(_) => false,
-        Leaf::This => false,
-        Leaf::Read(other) => other == var,
-        Leaf::StaticRead(_) => false,
-        Leaf::Field(_) => false,
-        Leaf::Closure(_) => false,
-        Leaf::Jump(_, _) => false,
-        Leaf::Rethrow => false,
-        Leaf::Raise {
-            error: _,
-            name: _,
-            is_setter: _,
-        } => false,
-    }
-}
-
-// Whether the operands are `this` and the variable.
-#[tactic(auto, using(crate::proofs::Operated::operands_seen))]
-fn are_operands(first: &Core, second: &Core, var: u32) -> bool
-    ensures { result ≡ true → (is_this (v.form (out-Core first.now).form) ≡ true) × (reads (v.form (out-Core second.now).form) var ≡ true) }
-{
-    let Form::Leaf(one) = &first.form else {
-        return false;
-    };
-    let Form::Leaf(other) = &second.form else {
-        return false;
-    };
-    is_this(*one) && reads(*other, var)
-}
-
-#[tactic(auto, using(crate::proofs::Operated::native_seen))]
-fn native_of_form(form: &Form, var: u32) -> Option<NativeId>
-    ensures { IfSome result (λ id. native_of_form (v.form form.now) var ≡ Some id) }
-{
-    let Form::Row(job, arguments) = form else {
-        return None;
-    };
-    let Job::Native(id) = job else {
-        return None;
-    };
-    match two_operands(arguments) {
-        None => None,
-        Some((first, second)) => {
-            if are_operands(first, second, var) {
-                Some(*id)
-            } else {
-                None
-            }
-        }
-    }
-}
-
-#[tactic(auto, using(core_program::proofs::Views::views))]
-fn native_of_body(body: &Part, var: u32) -> Option<NativeId>
-    ensures { IfSome result (λ id. native_of_body (v.part body.now) var ≡ Some id) }
-{
-    let Part::Given(core) = body else {
-        return None;
-    };
-    native_of_form(&core.form, var)
-}
-
-// The native that a function is. `None` says nothing.
-fn native_of(function: &Function) -> Option<NativeId>
-    ensures { IfSome result (λ id. native_of (p.function function.now) ≡ Some id) }
-{
-    if function.cells.len() != 0 || function.captures.len() != 0 {
-        return None;
-    }
-    let Some((parameter, rest)) = function.parameters.as_slice().split_first() else {
-        return None;
-    };
-    let Shape::Required = parameter.shape else {
-        return None;
-    };
-    if rest.len() != 0 || parameter.var >= function.vars {
-        return None;
-    }
-    native_of_body(&function.body, parameter.var)
-}
-
-// The native that the operator of the name is on objects of a class. `None` says nothing.
-fn operator(program: &CoreProgram, class: u32, name: u32) -> Option<NativeId>
-    ensures { IfSome result (λ id. operator (p.program program.now) class name ≡ Some id) }
-{
-    let Some(found) = member(program, class, name, Role::Method) else {
-        return None;
-    };
-    let Some(function) = function_at(program, member_function(program, found)) else {
-        return None;
-    };
-    native_of(function)
-}
+use machine_lookup::shapes::Reads;
+use native_base::argument::place;
+use native_number::number::number_of;
 
 // Whether two values are the same integer. `None` where one is none.
-#[tactic(auto, using(crate::proofs::Operated::equal_at_once))]
 fn equal_integers(x: Value, y: Value) -> Option<bool>
     ensures { IfSome result (λ b. (a : AroundOf) (h : Heap) → AnswersAtOnce a NativeId.ObjectEqual x y h (Value.Bool b)) }
 {
@@ -166,8 +53,46 @@ fn equal_integers(x: Value, y: Value) -> Option<bool>
     Some(high == other_high && low == other_low)
 }
 
+// The item of a list at an index. `None` says nothing.
+#[tactic(auto, using(crate::proofs::Listed::item_at_once))]
+fn item_at_once(store: &Store, list: Value, index: Value) -> Option<Value>
+    ensures { IfSome result (λ u. (a : AroundOf) → AnswersAtOnce a NativeId.ListIndex list index store.now u) }
+{
+    let Value::At(r) = list else {
+        return None;
+    };
+    let Kind::List(_) = store.kind(r) else {
+        return None;
+    };
+    let Some(number) = number_of(index) else {
+        return None;
+    };
+    let Some(at) = place(store.length(r), number) else {
+        return None;
+    };
+    match u32::try_from(at) {
+        Err(_) => None,
+        Ok(at) => Some(store.field(r, at)),
+    }
+}
+
+// How many items a list has. `None` says nothing.
+#[tactic(auto, using(crate::proofs::Listed::length_at_once))]
+fn length_at_once(store: &Store, list: Value) -> Option<Value>
+    ensures { IfSome result (λ u. (a : AroundOf) → ReadsAtOnce a NativeId.ListLength list store.now u) }
+{
+    let Value::At(r) = list else {
+        return None;
+    };
+    let Kind::List(_) = store.kind(r) else {
+        return None;
+    };
+    Some(integer_value(store.length(r) as i128))
+}
+
 // What a native of two values answers that only reads. `None` says nothing.
 #[tactic(auto, using(crate::proofs::Operated::number_at_once))]
+#[inline(always)]
 fn answer_at_once(run: &Run, a: Around, id: NativeId, x: Value, y: Value) -> Option<Value>
     ensures { IfSome result (λ u. AnswersAtOnce a.entry id x y run.now.store u) }
 {
@@ -176,12 +101,17 @@ fn answer_at_once(run: &Run, a: Around, id: NativeId, x: Value, y: Value) -> Opt
             None => None,
             Some(is_same) => Some(Value::Bool(is_same)),
         },
+        NativeId::ListIndex => match item_at_once(&run.store, x, y) {
+            None => None,
+            Some(item) => Some(item),
+        },
         _ => native_value(id, x, y),
     }
 }
 
-/// What an operator of an integer answers that is called with a value, and the steps left after it. `None` says nothing.
+/// What an operator answers that is called with a value and only reads, and the steps left after it. `None` says nothing.
 #[tactic(auto, using(crate::proofs::Operated::operated))]
+#[inline(always)]
 pub fn operated(
     run: &Run,
     a: Around,
@@ -194,18 +124,120 @@ pub fn operated(
         ≡ mute (ends (answer r.0) (record (seen run.now) { left = r.1 }))) }
     ensures less { IfSome result (λ r. r.1 < left) }
 {
-    let Value::Int { high: _, low: _ } = this else {
-        return None;
-    };
     if run.depth == 0 || left < 4 {
         return None;
     }
-    let Some(id) = operator(a.program, a.known.int_class.0, name) else {
+    let class = class_of(run, a, this);
+    let Some(id) = operator(a.program, class, name) else {
         return None;
     };
+    if !takes(run, a, class, name, value) {
+        return None;
+    }
     match answer_at_once(run, a, id, this, value) {
         None => None,
         Some(answer) => Some((answer, left - 4)),
+    }
+}
+
+// Whether the operator of the name on objects of a class surely takes the value: in production each does. `false` says nothing.
+#[inline(always)]
+fn takes(run: &Run, a: Around, class: u32, name: u32, value: Value) -> bool
+    ensures { result ≡ true → IsTaken a.entry run.now.store class name value }
+{
+    match a.setup.annotated {
+        None => true,
+        Some(_) => takes_checked(run, a, class, name, value),
+    }
+}
+
+// The same in checked mode.
+fn takes_checked(run: &Run, a: Around, class: u32, name: u32, value: Value) -> bool
+    ensures { result ≡ true → IsTaken a.entry run.now.store class name value }
+{
+    match operand_site(a.program, class, name) {
+        None => true,
+        Some(number) => admits(run, a, number, value),
+    }
+}
+
+// The site of the first parameter of the method of the name on objects of a class.
+fn operand_site(program: &Linked, class: u32, name: u32) -> Option<u32>
+    ensures { result ≡ operand_site (p.program program.now) class name }
+{
+    let Some(found) = program.member(class, name, Role::Method) else {
+        return None;
+    };
+    let number = member_function(program.core(), found);
+    let Some(function) = function_at(program.core(), number) else {
+        return None;
+    };
+    let Some((parameter, _)) = function.parameters.as_slice().split_first() else {
+        return None;
+    };
+    Some(parameter.site.0)
+}
+
+// The native that the operator of the name is on objects of a class. `None` says nothing.
+#[tactic(auto, using(crate::proofs::Operated::found_operator))]
+#[inline(always)]
+fn operator(program: &Linked, class: u32, name: u32) -> Option<NativeId>
+    ensures { IfSome result (λ id. operator (p.program program.now) class name ≡ Some id) }
+{
+    let Some(found) = program.found(class, name) else {
+        return None;
+    };
+    found.operator
+}
+
+// What the getter of the name reads on objects of a class that have no method of that name. `None` says nothing.
+#[tactic(auto, using(crate::proofs::Got::found_reading))]
+#[inline(always)]
+fn reading(program: &Linked, class: u32, name: u32) -> Option<Reads>
+    ensures { IfSome result (λ x. IsReading (p.program program.now) class name (reading x)) }
+{
+    let Some(found) = program.found(class, name) else {
+        return None;
+    };
+    let None = found.method else {
+        return None;
+    };
+    found.reads
+}
+
+// What a getter answers that reads a field or is a native that only reads, and the steps left after it. `None` says nothing.
+#[tactic(auto, using(crate::proofs::Got::field_got, crate::proofs::Got::native_got))]
+#[inline(always)]
+fn got(run: &Run, a: Around, name: u32, this: Value, left: u64) -> Option<(Value, u64)>
+    ensures value { IfSome result (λ r. (at : Place) → mute (get (world_in a.entry run.now.depth) at name this (record (seen run.now) { left = left }))
+        ≡ mute (ends (answer r.0) (record (seen run.now) { left = r.1 }))) }
+    ensures less { IfSome result (λ r. r.1 < left) }
+{
+    if run.depth == 0 || left < 2 {
+        return None;
+    }
+    let class = class_of(run, a, this);
+    match reading(a.program, class, name) {
+        None => None,
+        Some(Reads::Field(index)) => Some((field_of(&run.store, this, index), left - 1)),
+        Some(Reads::Native(id)) => match read_at_once(run, a, id, this) {
+            None => None,
+            Some(value) => Some((value, left - 2)),
+        },
+    }
+}
+
+// What a native of `this` answers that only reads. `None` says nothing.
+#[inline(always)]
+fn read_at_once(run: &Run, a: Around, id: NativeId, this: Value) -> Option<Value>
+    ensures { IfSome result (λ u. ReadsAtOnce a.entry id this run.now.store u) }
+{
+    match id {
+        NativeId::ListLength => match length_at_once(&run.store, this) {
+            None => None,
+            Some(length) => Some(length),
+        },
+        _ => None,
     }
 }
 
@@ -213,6 +245,7 @@ pub fn operated(
 const NESTING: u32 = 5;
 
 // Both operands, where there are two and none goes by a name.
+#[inline(always)]
 fn two_operands(arguments: &Arguments) -> Option<(&Core, &Core)>
     ensures { IfSome result (λ p. ((out-Arguments arguments.now).forms.items ≡ p.0.now ∷ p.1.now ∷ []) × ((out-Arguments arguments.now).names.items ≡ [])) }
 {
@@ -232,6 +265,7 @@ fn two_operands(arguments: &Arguments) -> Option<(&Core, &Core)>
 }
 
 // Whether a row may be answered at once, by what is done with it.
+#[inline(always)]
 fn is_operation(job: Job) -> bool {
     match job {
         Job::Native(_) => true,
@@ -242,6 +276,7 @@ fn is_operation(job: Job) -> bool {
 
 // What is done with two operands that are there: a native of numbers, or an operator of an integer. `None` says nothing.
 #[tactic(auto, using(crate::proofs::Operated::native_done))]
+#[inline(always)]
 fn operation(run: &Run, a: Around, job: Job, x: Value, y: Value, left: u64) -> Option<(Value, u64)>
     ensures value { IfSome result (λ r. (at : Place) → mute (row (world_in a.entry run.now.depth) at (v.job job) [] (x ∷ y ∷ []) (record (seen run.now) { left = left }))
         ≡ mute (ends (answer r.0) (record (seen run.now) { left = r.1 }))) }
@@ -273,11 +308,11 @@ pub fn equality(run: &Run, a: Around, x: Value, y: Value, left: u64) -> Option<(
     let Value::Int { high: _, low: _ } = y else {
         return None;
     };
-    operated(run, a, a.known.equals.0, x, y, left)
+    operated(run, a, a.setup.known.equals.0, x, y, left)
 }
 
-/// A form that is answered at once, with the steps left after it: one without parts, a native of numbers, an operator of an integer, a
-/// comparison of integers, or a value that comes to a site, with such operands. `None` says nothing.
+/// A form that is answered at once, with the steps left after it: one without parts, a native of numbers, an operator that only reads,
+/// a comparison of integers, a getter that only reads, or a value that surely goes on from a site, with such operands. `None` says nothing.
 pub fn at_once(run: &Run, a: Around, core: &Core, left: u64) -> Option<(Value, u64)>
     ensures value { IfSome result (λ p. mute (eval (v.core core.now) (world_in a.entry run.now.depth) (record (seen run.now) { left = left }))
         ≡ mute (ends (answer p.0) (record (seen run.now) { left = p.1 }))) }
@@ -287,7 +322,45 @@ pub fn at_once(run: &Run, a: Around, core: &Core, left: u64) -> Option<(Value, u
 }
 
 // The same of a form whose operands nest no deeper.
+#[cycle(nesting)]
 fn within(run: &Run, a: Around, core: &Core, left: u64, nesting: u32) -> Option<(Value, u64)>
+    ensures value { IfSome result (λ p. mute (eval (v.core core.now) (world_in a.entry run.now.depth) (record (seen run.now) { left = left }))
+        ≡ mute (ends (answer p.0) (record (seen run.now) { left = p.1 }))) }
+    ensures less { IfSome result (λ p. p.1 < left) }
+{
+    match &core.form {
+        Form::Leaf(_) => leaf_quick(run, a, core, left),
+        Form::Row(_, _) => row_within(run, a, core, left, nesting),
+        Form::Binary(_, _, _) => equal_within(run, a, core, left, nesting),
+        Form::Unary(_, _) => unary_within(run, a, core, left, nesting),
+        _ => None,
+    }
+}
+
+// The same, where a form without parts is looked at first.
+#[cycle(nesting)]
+#[inline(always)]
+fn operand_within(
+    run: &Run,
+    a: Around,
+    core: &Core,
+    left: u64,
+    nesting: u32,
+) -> Option<(Value, u64)>
+    ensures value { IfSome result (λ p. mute (eval (v.core core.now) (world_in a.entry run.now.depth) (record (seen run.now) { left = left }))
+        ≡ mute (ends (answer p.0) (record (seen run.now) { left = p.1 }))) }
+    ensures less { IfSome result (λ p. p.1 < left) }
+{
+    match &core.form {
+        Form::Leaf(_) => leaf_quick(run, a, core, left),
+        _ => within(run, a, core, left, nesting),
+    }
+}
+
+// The same of a row. It has a function of its own, so that its parts take no room where there are none.
+#[cycle(nesting)]
+#[inline(never)]
+fn row_within(run: &Run, a: Around, core: &Core, left: u64, nesting: u32) -> Option<(Value, u64)>
     ensures value { IfSome result (λ p. mute (eval (v.core core.now) (world_in a.entry run.now.depth) (record (seen run.now) { left = left }))
         ≡ mute (ends (answer p.0) (record (seen run.now) { left = p.1 }))) }
     ensures less { IfSome result (λ p. p.1 < left) }
@@ -295,33 +368,69 @@ fn within(run: &Run, a: Around, core: &Core, left: u64, nesting: u32) -> Option<
     if left == 0 || nesting == 0 {
         return None;
     }
-    match &core.form {
-        Form::Row(job, arguments) => {
-            if !is_operation(*job) {
+    let Form::Row(job, arguments) = &core.form else {
+        return None;
+    };
+    if !is_operation(*job) {
+        return None;
+    }
+    let (first, second) = two_operands(arguments)?;
+    let (x, middle) = operand_within(run, a, first, left - 1, nesting - 1)?;
+    let (y, after) = operand_within(run, a, second, middle, nesting - 1)?;
+    operation(run, a, *job, x, y, after)
+}
+
+// The same of a comparison.
+#[cycle(nesting)]
+#[inline(never)]
+fn equal_within(run: &Run, a: Around, core: &Core, left: u64, nesting: u32) -> Option<(Value, u64)>
+    ensures value { IfSome result (λ p. mute (eval (v.core core.now) (world_in a.entry run.now.depth) (record (seen run.now) { left = left }))
+        ≡ mute (ends (answer p.0) (record (seen run.now) { left = p.1 }))) }
+    ensures less { IfSome result (λ p. p.1 < left) }
+{
+    if left == 0 || nesting == 0 {
+        return None;
+    }
+    let Form::Binary(one, first, second) = &core.form else {
+        return None;
+    };
+    let Binary::Equal = one else {
+        return None;
+    };
+    let (x, middle) = operand_within(run, a, first, left - 1, nesting - 1)?;
+    let (y, after) = operand_within(run, a, second, middle, nesting - 1)?;
+    equality(run, a, x, y, after)
+}
+
+// The same of a value that comes to a site, and of a getter.
+#[cycle(nesting)]
+#[inline(never)]
+fn unary_within(run: &Run, a: Around, core: &Core, left: u64, nesting: u32) -> Option<(Value, u64)>
+    ensures value { IfSome result (λ p. mute (eval (v.core core.now) (world_in a.entry run.now.depth) (record (seen run.now) { left = left }))
+        ≡ mute (ends (answer p.0) (record (seen run.now) { left = p.1 }))) }
+    ensures less { IfSome result (λ p. p.1 < left) }
+{
+    if left == 0 || nesting == 0 {
+        return None;
+    }
+    let Form::Unary(one, operand) = &core.form else {
+        return None;
+    };
+    if is_closure(operand) {
+        return None;
+    }
+    match one {
+        Unary::Check(number) => {
+            let (value, after) = within(run, a, operand, left - 1, nesting - 1)?;
+            if !admits(run, a, number.0, value) {
                 return None;
             }
-            let (first, second) = two_operands(arguments)?;
-            let (x, middle) = within(run, a, first, left - 1, nesting - 1)?;
-            let (y, after) = within(run, a, second, middle, nesting - 1)?;
-            operation(run, a, *job, x, y, after)
+            Some((value, after))
         }
-        Form::Binary(one, first, second) => {
-            let Binary::Equal = one else {
-                return None;
-            };
-            let (x, middle) = within(run, a, first, left - 1, nesting - 1)?;
-            let (y, after) = within(run, a, second, middle, nesting - 1)?;
-            equality(run, a, x, y, after)
+        Unary::Get(name) => {
+            let (this, after) = operand_within(run, a, operand, left - 1, nesting - 1)?;
+            got(run, a, name.0, this, after)
         }
-        Form::Unary(one, operand) => {
-            let Unary::Check(_) = one else {
-                return None;
-            };
-            if is_closure(operand) {
-                return None;
-            }
-            within(run, a, operand, left - 1, nesting - 1)
-        }
-        _ => leaf_quick(run, a, core, left),
+        _ => None,
     }
 }

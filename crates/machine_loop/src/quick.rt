@@ -1,18 +1,16 @@
-// Forms that are answered at once, without a frame.
+// Forms without parts that are answered at once, without a frame, and natives of numbers.
 #![tactic(auto)]
 
-ghost use Rattle.std.specs.Prelude.{◌≡◌, ◌<◌, ◌+◌, ℕ, List, [], Some, false, IfSome};
+ghost use Rattle.std.specs.Prelude.{◌≡◌, ◌<◌, Some, IfSome};
 ghost use Rattle.dart_store.specs.Heap.{static_at};
-ghost use Rattle.core_program.specs.Core as c;
 ghost use Rattle.core_program.specs.View as v;
 ghost use Rattle.evaluation.specs.State.{State, Outcome, Completion, answer, ends, World};
-ghost use Rattle.evaluation.specs.Sequence.{on_answers};
-ghost use Rattle.evaluation.specs.Evaluation.{eval, evals, leaf, row};
+ghost use Rattle.evaluation.specs.Evaluation.{eval, leaf};
 ghost use Rattle.native_number.specs.Number.{number_native};
 ghost use Rattle.machine_frame.specs.Outside.{setting_of, world_in};
-ghost use Rattle.machine_frame.specs.Frames.{seen, forms_of};
+ghost use Rattle.machine_frame.specs.Frames.{seen};
 
-use core_program::form::{Core, Form, Job, Leaf};
+use core_program::form::{Core, Form, Leaf};
 use dart_base::place::Place;
 use dart_ir::native::{Answer, NativeId};
 use dart_ir::value::Value;
@@ -21,7 +19,6 @@ use machine_frame::around::Around;
 use machine_frame::objects::field_of;
 use machine_frame::run::Run;
 use machine_frame::variables::read_variable;
-use machine_lookup::row::first_form;
 use native_number::number::number_native;
 
 /// What a form without parts answers, where it only reads, and the steps left. `None` says nothing.
@@ -75,64 +72,6 @@ pub fn leaf_quick(run: &Run, a: Around, core: &Core, left: u64) -> Option<(Value
     match leaf_value(run, a, core.place, *one, left - 1) {
         None => None,
         Some((value, after)) => Some((value, after)),
-    }
-}
-
-/// A form that is answered at once, with the steps left after it. `None` says nothing.
-#[tactic(auto, using(core_program::proofs::Views::views, machine_frame::proofs::Quick::row_enters))]
-#[inline(always)]
-pub fn quick(run: &Run, a: Around, core: &Core, left: u64) -> Option<(Value, u64)>
-    ensures value { IfSome result (λ p. eval (v.core core.now) (world_in a.entry run.now.depth) (record (seen run.now) { left = left })
-        ≡ ends (answer p.0) (record (seen run.now) { left = p.1 })) }
-    ensures less { IfSome result (λ p. p.1 < left) }
-{
-    let Form::Row(job, arguments) = &core.form else {
-        return leaf_quick(run, a, core, left);
-    };
-    let Job::Native(native) = job else {
-        return None;
-    };
-    if left == 0 {
-        return None;
-    }
-    match native_quick(run, a, *native, arguments.forms.as_slice(), left - 1) {
-        None => None,
-        Some((value, after)) => Some((value, after)),
-    }
-}
-
-/// What a native of two forms without parts answers.
-#[tactic(auto, using(machine_frame::proofs::Quick::two_answers, machine_frame::proofs::Natives::native_gives))]
-#[inline(always)]
-fn native_quick(
-    run: &Run,
-    a: Around,
-    native: NativeId,
-    forms: &[Core],
-    left: u64,
-) -> Option<(Value, u64)>
-    ensures value { IfSome result (λ p. (at : Place) (names : List ℕ) → on_answers (row (world_in a.entry run.now.depth) at (c.native native) names) (evals false (forms_of forms.now) (world_in a.entry run.now.depth)) [] (record (seen run.now) { left = left })
-        ≡ ends (answer p.0) (record (seen run.now) { left = p.1 })) }
-    ensures less { IfSome result (λ p. p.1 < left + 1) }
-{
-    let Some((first, rest)) = first_form(forms) else {
-        return None;
-    };
-    let Some((second, none)) = first_form(rest) else {
-        return None;
-    };
-    let None = first_form(none) else {
-        return None;
-    };
-    let Some((x, middle)) = leaf_quick(run, a, first, left) else {
-        return None;
-    };
-    let Some((y, after)) = leaf_quick(run, a, second, middle) else {
-        return None;
-    };
-    match native_value(native, x, y) {
-        None => None,
-        Some(value) => Some((value, after)),
     }
 }
 

@@ -13,19 +13,19 @@ pub fn read_of<'a>(a: Around<'a>) -> shown::Around<'a>
     ensures { around result ≡ read_of a.entry }
 {
     shown::Around {
-        literals: a.program.literals.as_slice(),
-        names: &a.program.names,
-        classes: a.program.classes.classes.as_slice(),
+        literals: a.program.core().literals.as_slice(),
+        names: &a.program.core().names,
+        classes: a.program.core().classes.classes.as_slice(),
         known: KnownClasses {
-            null: a.known.null_class,
-            boolean: a.known.bool_class,
-            integer: a.known.int_class,
-            string: a.known.string_class,
-            list: a.known.list_class,
-            function: a.program.classes.function,
-            type_class: a.known.type_class,
-            send_port: a.known.send_port_class,
-            receive_port: a.known.receive_port_class,
+            null: a.setup.known.null_class,
+            boolean: a.setup.known.bool_class,
+            integer: a.setup.known.int_class,
+            string: a.setup.known.string_class,
+            list: a.setup.known.list_class,
+            function: a.program.core().classes.function,
+            type_class: a.setup.known.type_class,
+            send_port: a.setup.known.send_port_class,
+            receive_port: a.setup.known.receive_port_class,
         },
     }
 }

@@ -1,5 +1,6 @@
 // The call of `main` that starts a turn.
 ghost use Rattle.std.specs.Prelude.{◌≡◌, ◌<◌, ◌+◌, nat_lt, map, true, false, IfOk};
+ghost use Rattle.dart_ir.specs.Classes.{IsValid};
 ghost use Rattle.core_program.specs.ProgramView as p;
 ghost use Rattle.core_program.specs.View as v;
 ghost use Rattle.evaluation.specs.Sequence.{entering};
@@ -31,9 +32,11 @@ use std::alloc::Global;
 
 /// Begins the turn that `main` starts.
 pub fn start_main<'a>(run: &mut Run<'a>, a: Around<'a>) -> Result<Control<'a>, Fault>
+    requires valid { IsValid a.program.now.classes }
     ensures { IfOk result (λ c. going a.entry run.new c ≡ does a.entry run.old (λ w. started w (main a.entry.program.now.main.0))) }
 {
-    let takes = takes_argument(a.program, a.program.main.0);
+    let program = a.program.core();
+    let takes = takes_argument(program, program.main.0);
     if takes {
         start_with_words(run, a)
     } else {
@@ -43,6 +46,7 @@ pub fn start_main<'a>(run: &mut Run<'a>, a: Around<'a>) -> Result<Control<'a>, F
 
 /// The call of `main` with nothing, which takes its step.
 fn start_alone<'a>(run: &mut Run<'a>, a: Around<'a>) -> Result<Control<'a>, Fault>
+    requires valid { IsValid a.program.now.classes }
     ensures { IfOk result (λ c. going a.entry run.new c ≡ does a.entry run.old (λ w. call_main false w a.entry.program.now.main.0)) }
 {
     let passed = no_operands();
@@ -52,6 +56,7 @@ fn start_alone<'a>(run: &mut Run<'a>, a: Around<'a>) -> Result<Control<'a>, Faul
 
 /// The call of `main` with an empty list of strings, which takes its step.
 fn start_with_words<'a>(run: &mut Run<'a>, a: Around<'a>) -> Result<Control<'a>, Fault>
+    requires valid { IsValid a.program.now.classes }
     ensures { IfOk result (λ c. going a.entry run.new c ≡ does a.entry run.old (λ w. call_main true w a.entry.program.now.main.0)) }
 {
     let object = no_words(run.alloc, a)?;
@@ -64,6 +69,7 @@ fn start_with_words<'a>(run: &mut Run<'a>, a: Around<'a>) -> Result<Control<'a>,
 
 /// The call of `main` with a value, which takes its step.
 fn start_with<'a>(run: &mut Run<'a>, a: Around<'a>, value: Value) -> Result<Control<'a>, Fault>
+    requires valid { IsValid a.program.now.classes }
     ensures { IfOk result (λ c. going a.entry run.new c ≡ does a.entry run.old (λ w. entering (call.static_call w (start_place w.setting) a.entry.program.now.main.0 (g.alone value)))) }
 {
     let passed = last_operand();
@@ -79,6 +85,7 @@ fn start_call<'a>(
     a: Around<'a>,
     passed: Passed<'a>,
 ) -> Result<Control<'a>, Fault>
+    requires valid { IsValid a.program.now.classes }
     ensures { IfOk result (λ c. going a.entry run.new c ≡ does_row a.entry run.old passed.entry.count (λ w. entering (call.static_call w (start_place w.setting) a.entry.program.now.main.0 (given_of passed.entry run.old.operands.items)))) }
 {
     if run.left == 0 {
@@ -86,8 +93,8 @@ fn start_call<'a>(
         return Ok(Control::Leave(Exit::Over(Limit::OutOfSteps)));
     }
     run.left -= 1;
-    let at = start_place(a.program);
-    let control = static_call(run, a, at, a.program.main.0, passed)?;
+    let at = start_place(a.program.core());
+    let control = static_call(run, a, at, a.program.core().main.0, passed)?;
     Ok(control)
 }
 
@@ -149,7 +156,7 @@ fn no_words(alloc: Global, a: Around) -> Result<Object, Fault>
 {
     let mut args = Vec::new(alloc);
     if args
-        .push(TypeRef::Class(a.known.string_class, Vec::new(alloc)))
+        .push(TypeRef::Class(a.setup.known.string_class, Vec::new(alloc)))
         .is_err()
     {
         return Err(Fault::Memory);

@@ -96,7 +96,7 @@ fn string_units<'r>(run: &'r Run, a: Around<'r>, value: Value) -> Option<&'r [u1
     ensures { MatchOption result (units_of (setting_of a.entry) run.now.store value ≡ None) (λ text. units_of (setting_of a.entry) run.now.store value ≡ Some text.now) }
 {
     match value {
-        Value::Literal(number) => match a.program.literals.get(number as usize) {
+        Value::Literal(number) => match a.program.core().literals.get(number as usize) {
             None => None,
             Some(text) => Some(text.as_slice()),
         },
@@ -129,10 +129,10 @@ fn push_object(run: &Run, a: Around, units: &mut Units, value: Value) -> Result<
 fn push_class(alloc: Global, a: Around, units: &mut Units, class: u32) -> Result<(), Fault>
     ensures { OnOk result (units.new ≡ units.old ++ class_name (setting_of a.entry) (Some class)) }
 {
-    match class_at(a.program, class) {
+    match class_at(a.program.core(), class) {
         None => Ok(()),
         Some(info) => {
-            let name = shown_name(alloc, &a.program.names, info.name.0, false)?;
+            let name = shown_name(alloc, &a.program.core().names, info.name.0, false)?;
             units.append(name.as_slice())?;
             Ok(())
         }
@@ -167,11 +167,21 @@ fn push_instance(
 fn has_message(a: Around, class: u32) -> bool
     ensures { result ≡ has_message (setting_of a.entry) class }
 {
-    let count = a.program.classes.classes.len();
-    if is_below(a.program, count, Some(class), a.known.errors.error.0) {
+    let count = a.program.core().classes.classes.len();
+    if is_below(
+        a.program.core(),
+        count,
+        Some(class),
+        a.setup.known.errors.error.0,
+    ) {
         return true;
     }
-    is_below(a.program, count, Some(class), a.known.errors.exception.0)
+    is_below(
+        a.program.core(),
+        count,
+        Some(class),
+        a.setup.known.errors.exception.0,
+    )
 }
 
 /// Whether the other class is among the first so many from a class up.

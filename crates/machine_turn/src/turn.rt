@@ -25,7 +25,8 @@ pub fn run_first<'a>(alloc: Global, a: Around<'a>, limits: Limits) -> Result<Opt
     requires units { limits.units < 2 ^ 32 }
     ensures { IfOk result (λ made. option_map shown made ≡ first_turn (world_in a.entry limits.depth) a.entry.program.now (budget limits)) }
 {
-    let made = new_store(alloc, a.program, limits.units)?;
+    let program = a.program.core();
+    let made = new_store(alloc, program, limits.units)?;
     match made {
         None => Ok(None),
         Some(store) => {

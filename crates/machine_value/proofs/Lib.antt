@@ -1,3 +1,4 @@
+pub mod Checked
 pub mod Closures
 pub mod Joined
 pub mod Shown

@@ -47,7 +47,7 @@ mixed_step zero p c k ts h = absurd (h refl)
 mixed_step (suc n) p c k ts h =
     ap (λ m. cond (nat_eq k c) (Some (class k ts)) (mixed_in m p c (put_in ts (first_type (interfaces (class_at p k)))))) (one_less n)
 
-listed : (ts : List Ty) → type_list (of_list ts) ≡ ts
+pub listed : (ts : List Ty) → type_list (of_list ts) ≡ ts
 listed [] = refl
 listed (t ∷ ts) = ap (λ l. t ∷ l) (listed ts)
 

@@ -99,6 +99,6 @@ pub fn put_name(
     ensures made { IfOk result (λ made. add (text (ending_in is_setter (shown_name (setting_of a.entry).names name))) (seen run.old) ≡ ends (value_or_full made) (seen run.new)) }
     ensures beside { IfOk result (λ made. IsBeside run.old run.new) }
 {
-    let units = shown_name(run.alloc, &a.program.names, name, is_setter)?;
+    let units = shown_name(run.alloc, &a.program.core().names, name, is_setter)?;
     put_object(run, Object::Text(units))
 }

@@ -69,7 +69,7 @@ pub fn make_closure<'a>(run: &mut Run<'a>, a: Around<'a>, f: u32) -> Result<Cont
 {
     let args = arguments_here(run, a)?;
     let mut cells = Vec::new(run.alloc);
-    capture(run, a, function_captures(a.program, f), &mut cells)?;
+    capture(run, a, function_captures(a.program.core(), f), &mut cells)?;
     let object = Object::Closure {
         decl: DeclId(f),
         receiver: run.body.this,

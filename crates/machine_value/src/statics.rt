@@ -43,7 +43,7 @@ fn initialise<'a>(run: &mut Run<'a>, a: Around<'a>, at: Place, d: u32) -> Result
     ensures meaning { IfOk result (λ c. going a.entry run.new c ≡ does a.entry run.old (λ w st. call.leaving at (x.initialised (x.has_initialiser (static_of (p.program a.entry.program.now) d)) w d st))) }
     ensures less { IfOk result (λ c. work run.new c < room run.old + 10) }
 {
-    let Some(variable) = static_of(a.program, d) else {
+    let Some(variable) = static_of(a.program.core(), d) else {
         return Ok(answer(run, a, Value::Null));
     };
     match &variable.init {

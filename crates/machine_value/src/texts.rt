@@ -26,7 +26,7 @@ pub fn append_text(run: &Run, a: Around, value: Value, units: &mut Units) -> Res
     ensures other { IfOk result (λ is_text. is_text ≡ false → units_of (setting_of a.entry) run.now.store value ≡ None) }
 {
     match value {
-        Value::Literal(number) => match a.program.literals.get(number as usize) {
+        Value::Literal(number) => match a.program.core().literals.get(number as usize) {
             None => Ok(false),
             Some(text) => {
                 units.append(text.as_slice())?;

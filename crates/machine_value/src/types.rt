@@ -30,10 +30,10 @@ pub fn arguments_here(run: &Run, a: Around) -> Result<Types, Fault>
     let Source::Function(f) = run.body.source else {
         return Ok(Vec::new(run.alloc));
     };
-    let Some(function) = function_at(a.program, f) else {
+    let Some(function) = function_at(a.program.core(), f) else {
         return Ok(Vec::new(run.alloc));
     };
-    let Some(class) = class_of_function(a.program, f) else {
+    let Some(class) = class_of_function(a.program.core(), f) else {
         return Ok(Vec::new(run.alloc));
     };
     match function.kind {
@@ -77,10 +77,23 @@ fn closure_arguments(run: &Run) -> Result<Types, Fault>
 fn receiver_arguments(run: &Run, a: Around, class: u32) -> Result<Types, Fault>
     ensures { IfOk result (λ found. map ty found.items ≡ receiver_arguments (setting_of a.entry) run.now.store run.now.body.this run.now.body.owner (Some class)) }
 {
-    let of = value_type(run, a, run.body.this)?;
-    let count = a.program.classes.classes.len();
-    let above = up_to(run.alloc, a.program, count, run.body.owner, of)?;
-    let found = mixed_in(run.alloc, a.program, count, class, above)?;
+    arguments_of(run, a, run.body.this, run.body.owner, class)
+}
+
+/// The type arguments that a value has at a class whose members it has by an owner.
+pub fn arguments_of(
+    run: &Run,
+    a: Around,
+    value: Value,
+    owner: u32,
+    class: u32,
+) -> Result<Types, Fault>
+    ensures { IfOk result (λ found. map ty found.items ≡ receiver_arguments (setting_of a.entry) run.now.store value owner (Some class)) }
+{
+    let of = value_type(run, a, value)?;
+    let count = a.program.core().classes.classes.len();
+    let above = up_to(run.alloc, a.program.core(), count, owner, of)?;
+    let found = mixed_in(run.alloc, a.program.core(), count, class, above)?;
     arguments_in(run.alloc, &found)
 }
 
@@ -101,10 +114,10 @@ pub fn value_type(run: &Run, a: Around, value: Value) -> Result<Option<TypeRef>,
 {
     match value {
         Value::Null => Ok(None),
-        Value::Bool(_) => Ok(Some(plain(run.alloc, a.known.bool_class))),
-        Value::Int { high: _, low: _ } => Ok(Some(plain(run.alloc, a.known.int_class))),
-        Value::Literal(_) => Ok(Some(plain(run.alloc, a.known.string_class))),
-        Value::Code(_) => Ok(Some(plain(run.alloc, a.program.classes.function))),
+        Value::Bool(_) => Ok(Some(plain(run.alloc, a.setup.known.bool_class))),
+        Value::Int { high: _, low: _ } => Ok(Some(plain(run.alloc, a.setup.known.int_class))),
+        Value::Literal(_) => Ok(Some(plain(run.alloc, a.setup.known.string_class))),
+        Value::Code(_) => Ok(Some(plain(run.alloc, a.program.core().classes.function))),
         Value::At(r) => match run.store.get(r) {
             None => Ok(None),
             Some(object) => object_type(run.alloc, a, object),
@@ -126,24 +139,24 @@ fn object_type(alloc: Global, a: Around, object: &Object) -> Result<Option<TypeR
             args,
             items: _,
             fixed: _,
-        } => of_class(alloc, a.known.list_class, args),
-        Object::Text(_) => Ok(Some(plain(alloc, a.known.string_class))),
+        } => of_class(alloc, a.setup.known.list_class, args),
+        Object::Text(_) => Ok(Some(plain(alloc, a.setup.known.string_class))),
         Object::Closure {
             decl: _,
             receiver: _,
             args: _,
             cells: _,
-        } => Ok(Some(plain(alloc, a.program.classes.function))),
+        } => Ok(Some(plain(alloc, a.program.core().classes.function))),
         Object::Bound {
             receiver: _,
             member: _,
-        } => Ok(Some(plain(alloc, a.program.classes.function))),
-        Object::TypeValue(_) => Ok(Some(plain(alloc, a.known.type_class))),
+        } => Ok(Some(plain(alloc, a.program.core().classes.function))),
+        Object::TypeValue(_) => Ok(Some(plain(alloc, a.setup.known.type_class))),
         Object::SendPort {
             isolate: _,
             port: _,
-        } => Ok(Some(plain(alloc, a.known.send_port_class))),
-        Object::ReceivePort { port: _ } => Ok(Some(plain(alloc, a.known.receive_port_class))),
+        } => Ok(Some(plain(alloc, a.setup.known.send_port_class))),
+        Object::ReceivePort { port: _ } => Ok(Some(plain(alloc, a.setup.known.receive_port_class))),
         Object::Cell {
             value: _,
             counted: _,
@@ -281,7 +294,7 @@ fn put_in(
 }
 
 /// Type arguments put into a type. A larger one than a type may be is not carried out.
-fn instance(alloc: Global, of: &TypeRef, arguments: &[TypeRef]) -> Result<TypeRef, Fault>
+pub fn instance(alloc: Global, of: &TypeRef, arguments: &[TypeRef]) -> Result<TypeRef, Fault>
     ensures { IfOk result (λ made. ty made ≡ instance (of_list (map ty arguments.now)) (ty of.now)) }
 {
     match instantiate(alloc, of, arguments) {

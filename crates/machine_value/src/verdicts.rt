@@ -35,7 +35,7 @@ fn takes_null(a: Around, of: &TypeRef) -> bool
         TypeRef::Dynamic => true,
         TypeRef::Bottom => false,
         TypeRef::Void => false,
-        TypeRef::Class(class, _) => either(class.0 == 0, class.0 == a.known.null_class.0),
+        TypeRef::Class(class, _) => either(class.0 == 0, class.0 == a.setup.known.null_class.0),
         TypeRef::Param(_) => false,
         TypeRef::Function(_) => false,
     }
@@ -49,7 +49,7 @@ pub fn is_of(run: &Run, a: Around, value: Value, of: &TypeRef) -> Result<bool, F
     match value_type(run, a, value)? {
         None => Ok(takes_null(a, of)),
         Some(one) => {
-            let holds = is_subtype(run.alloc, &a.program.classes, &one, of)?;
+            let holds = is_subtype(run.alloc, &a.program.core().classes, &one, of)?;
             Ok(holds)
         }
     }

@@ -9,7 +9,7 @@ pub unreachable-requires : goal.unreachable-requires
 unreachable-requires c =
     let f = c.args.function.now in
     let none : length f.parameters.items ≡ 0 = sym (ap length c.as_slice.ensures.value) ∙ c.in-None.ensures.cases in
-    let e : true ≡ false = sym (nothing_entered (v.part f.body) f.parameters.items (ap v.part c.in-Missing.is ∙ view_missing) none) ∙ c.requires in
+    let e : true ≡ false = sym (nothing_entered (v.part f.body) f.parameters.items (ap v.part c.in-Missing.is ∙ view_missing) none) ∙ c.requires.entered in
     cc
 
 pub returns-in-Given-clause-meaning : goal.returns-in-Given-clause-meaning

@@ -25,12 +25,12 @@ returns-in-Some-receiver-clause-meaning c =
 
 pub returns-in-Super-clause-meaning : goal.returns-in-Super-clause-meaning
 returns-in-Super-clause-meaning c =
-    comes_to c.args.a c.super_member.new.run c.super_member.result _ _ (super_goes c.args.a c.args.run.now c.args.at c.args.passed c.args.job c.in-Super.role c.in-Super.name c.in-Super.is c.requires) c.super_member.ensures.meaning
+    comes_to c.args.a c.super_member.new.run c.super_member.result _ _ (super_goes c.args.a c.args.run.now c.args.at c.args.passed c.args.job c.in-Super.role c.in-Super.name c.in-Super.is c.requires.whole) c.super_member.ensures.meaning
 
 pub returns-in-Call-clause-meaning : goal.returns-in-Call-clause-meaning
 returns-in-Call-clause-meaning c =
-    comes_to c.args.a c.static_call.new.run c.static_call.result _ _ (call_goes c.args.a c.args.run.now c.args.at c.args.passed c.args.job c.in-Call.f c.in-Call.is c.requires) c.static_call.ensures.meaning
+    comes_to c.args.a c.static_call.new.run c.static_call.result _ _ (call_goes c.args.a c.args.run.now c.args.at c.args.passed c.args.job c.in-Call.f c.in-Call.is c.requires.whole) c.static_call.ensures.meaning
 
 pub returns-in-SuperNew-clause-meaning : goal.returns-in-SuperNew-clause-meaning
 returns-in-SuperNew-clause-meaning c =
-    comes_to c.args.a c.construct.new.run c.construct.result _ _ (super_new_goes c.args.a c.args.run.now c.args.at c.args.passed c.args.job c.in-SuperNew.f c.in-SuperNew.is c.requires) c.construct.ensures.meaning
+    comes_to c.args.a c.construct.new.run c.construct.result _ _ (super_new_goes c.args.a c.args.run.now c.args.at c.args.passed c.args.job c.in-SuperNew.f c.in-SuperNew.is c.requires.whole) c.construct.ensures.meaning

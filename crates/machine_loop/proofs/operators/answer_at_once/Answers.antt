@@ -11,3 +11,7 @@ returns-in-Some c = λ at st e.
 pub returns-in_default : goal.returns-in_default
 returns-in_default c =
     if_some c.native_value.result _ _ (λ u h. number_at_once c.args.a c.args.id c.args.x c.args.y c.args.run.now.store u h) c.native_value.ensures
+
+pub returns-in-Some-item_at_once : goal.returns-in-Some-item_at_once
+returns-in-Some-item_at_once c = λ at st e.
+    ap (λ q. native (setting_of c.args.a) at q (c.args.x ∷ c.args.y ∷ []) st) c.in-ListIndex.is ∙ c.in-Some-item_at_once.ensures c.args.a at st e
