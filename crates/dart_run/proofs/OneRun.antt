@@ -7,6 +7,7 @@ use Rattle.core_program.specs.Program.{Class, Program}
 use Rattle.core_program.specs.ProgramView as v
 use Rattle.dart_native.specs.Native as n
 use Rattle.native_object.specs.Shown as shown
+use Rattle.evaluation.specs.Checks.{OnFailure}
 use Rattle.evaluation.specs.Turn.{Turn, Budget, new_isolate}
 use Rattle.machine_frame.specs.declared.around.Around.{Around}
 use Rattle.machine_frame.specs.Natives.{natives, native_steps, native_end, read_of, end_of}
@@ -19,7 +20,7 @@ use Rattle.dart_run.proofs.Alike.{subtypes_same}
 
 -- ---- two programs that are run for one
 
-module _ (a b : Around) (program_is : v.program a.program.now ≡ v.program b.program.now) (names_is : a.program.now.names ≡ b.program.now.names) (known_is : known_of a.known.now ≡ known_of b.known.now) where
+module _ (a b : Around) (program_is : v.program a.program.now ≡ v.program b.program.now) (names_is : a.program.now.names ≡ b.program.now.names) (known_is : known_of a.setup.now.known ≡ known_of b.setup.now.known) where
   class_names_same : map shown.name_number a.program.now.classes.classes.items ≡ map shown.name_number b.program.now.classes.classes.items
   class_names_same =
       sym (map-map (λ (c : Class ℕ). c.name) v.class a.program.now.classes.classes.items)
@@ -51,7 +52,7 @@ module _ (a b : Around) (program_is : v.program a.program.now ≡ v.program b.pr
     call = λ id ts vs h. end_of (n.native (read_same i) id ts vs h);
   }
 
-  setting_same : a.isolate ≡ b.isolate → setting_of a ≡ setting_of b
+  setting_same : a.setup.now.isolate ≡ b.setup.now.isolate → setting_of a ≡ setting_of b
   setting_same isolate_is = λ i. record {
     program = program_is i;
     names = names_is i;
@@ -66,14 +67,19 @@ module _ (a b : Around) (program_is : v.program a.program.now ≡ v.program b.pr
 
 -- ---- one run
 
-turn_is_one : (x : CoreProgram) (b : Budget) (turn other : Option Turn) → IsRun x b turn → IsRun x b other → turn ≡ other
-turn_is_one x b turn other r s =
+-- what evaluation asks of the runs of one program is the same
+pub settings_same : (x : CoreProgram) (how others : OnFailure) (b : Budget) (turn other : Option Turn) (r : IsRun x how b turn)
+    (s : IsRun x others b other) → setting_of r.around ≡ setting_of s.around
+settings_same x how others b turn other r s =
+    setting_same r.around s.around (r.stripped.program ∙ sym s.stripped.program) (r.stripped.names_same ∙ sym s.stripped.names_same)
+    (r.stripped.known_same ∙ sym s.stripped.known_same) (r.first ∙ sym s.first)
+
+turn_is_one : (x : CoreProgram) (how : OnFailure) (b : Budget) (turn other : Option Turn) → IsRun x how b turn → IsRun x how b other → turn ≡ other
+turn_is_one x how b turn other r s =
     r.is_turn
-    ∙ ap (λ w. option_map (main_turn w (v.program x) x.names b.depth) (new_isolate (v.program x) b))
-    (setting_same r.around s.around (r.stripped.program ∙ sym s.stripped.program) (r.stripped.names_same ∙ sym s.stripped.names_same)
-    (r.stripped.known_same ∙ sym s.stripped.known_same) (r.first ∙ sym s.first))
+    ∙ ap (λ w. option_map (main_turn w (v.program x) x.names how b.depth) (new_isolate (v.program x) b)) (settings_same x how how b turn other r s)
     ∙ sym s.is_turn
 
 pub run_is_one : RunIsOne
-run_is_one x b made other r s =
-    r.is_written ∙ ap (written x.units.items) (turn_is_one x b r.turn s.turn r.is_run s.is_run) ∙ sym s.is_written
+run_is_one x how b made other r s =
+    r.is_written ∙ ap (written x.units.items (v.program x).sites) (turn_is_one x how b r.turn s.turn r.is_run s.is_run) ∙ sym s.is_written

@@ -1,7 +1,13 @@
-// A law of runs, without code.
-ghost use Rattle.dart_run.specs.Laws.{RunIsOne};
+// Laws of runs, without code.
+ghost use Rattle.dart_run.specs.Laws.{CheckedRunsFollow, RunIsOne};
 
-/// What is written of a program's run, and how it finishes, hangs on the program and the budget alone.
+/// What is written of a program's run, and how it finishes, hangs on the program, the mode and the budget alone.
 pub fn run_is_one()
     ensures { RunIsOne }
+{}
+
+/// What is written of a checked run up to its first report is what is written first in production. Where no check fails both write
+/// the same, and finish alike.
+pub fn checked_runs_follow()
+    ensures { CheckedRunsFollow }
 {}

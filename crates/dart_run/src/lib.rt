@@ -1,7 +1,8 @@
-// The run of a program in production.
+// The run of a program.
 #![tactic(auto)]
 
 pub mod known;
 pub mod law;
+pub mod mode;
 pub mod run;
 pub mod written;
