@@ -3,4 +3,5 @@
 
 pub mod copy;
 pub mod lower;
+pub mod number;
 pub mod unit;

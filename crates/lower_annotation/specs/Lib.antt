@@ -1,0 +1,5 @@
+pub mod Numbered
+pub mod Instance
+pub mod Written
+pub mod Annotated
+pub mod Seen
