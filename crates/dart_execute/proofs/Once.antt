@@ -1,5 +1,5 @@
 -- What becomes of a loaded program is one thing.
-use Rattle.std.proofs.Common.{◌≡◌, ◌∙◌, sym, ap, subst, ℕ, List, map, length, Bool, true, false, inl, inr, arith}
+use Rattle.std.proofs.Common.{◌≡◌, ◌∙◌, refl, sym, ap, subst, ℕ, List, map, length, Bool, true, false, inl, inr, arith}
 use Rattle.std.specs.List.{zip}
 use Rattle.std.specs.Option.{option_map}
 use Rattle.std.proofs.lemmas.List.{length-map}
@@ -20,15 +20,18 @@ use Rattle.core_program.specs.Named as named
 use Rattle.core_program.specs.Program as c
 use Rattle.core_program.specs.ProgramView as pv
 use Rattle.dart_class.specs.Given.{class_given, source_units}
-use Rattle.dart_lower.specs.Given.{given_of, source_unit}
-use Rattle.dart_run.specs.Run.{IsRunOf}
+use Rattle.dart_lower.specs.Given.{annotated_around, given_of, source_unit}
+use Rattle.dart_run.specs.Run.{IsRunOf, on_failure}
+use Rattle.dart_run.specs.declared.mode.Mode.{Mode}
 use Rattle.dart_run.specs.declared.written.Written.{Written}
 use Rattle.dart_run.proofs.OneRun.{run_is_one}
+use Rattle.evaluation.specs.Checks.{OnFailure, reports}
 use Rattle.evaluation.specs.Turn.{Budget, new_isolate}
 use Rattle.laws_class.specs.Same.{IsSameTable}
 use Rattle.laws_scope.proofs.Scoped.{one_scoping}
 use Rattle.laws_table.specs.Roots.{DeclaresRoots}
 use Rattle.laws_table.proofs.Laws as table
+use Rattle.lower_annotation.specs.Annotated.{annotated}
 use Rattle.lower_program.specs.Views.{library_outer}
 use Rattle.lower_table.specs.Rows.{rows_of, index_of}
 use Rattle.lower_table.specs.Table.{table_around, around_by, meanings_of, source_of}
@@ -38,6 +41,7 @@ use Rattle.evaluation.specs.Prelude.{known}
 use Rattle.machine_frame.specs.Outside.{setting_of}
 use Rattle.machine_turn.specs.Produced.{main_turn}
 use Rattle.scope_load.specs.State.{State}
+use Rattle.scope_program.specs.Classes.{position_of}
 use Rattle.scope_program.specs.Program.{Scoping}
 use Rattle.table_accessor.proofs.Equal.{stay_equal}
 use Rattle.translation.specs.Program as p
@@ -122,14 +126,18 @@ module _ (state : State) (s : Scoping) (main : ℕ) (k l : Classes) (classes : m
       rows : rows_of s.texts k ≡ rows_of s.texts l
       rows = rows_same s.texts k l classes
 
-      around_same : table_around s k ≡ table_around s l
-      around_same = λ i. around_by (meanings_of s) (rows i) (index_of (source_of s) (rows i))
+      table_same : table_around s k ≡ table_around s l
+      table_same = λ i. around_by (meanings_of s) (rows i) (index_of (source_of s) (rows i))
+
+      around_same : annotated_around s state k ≡ annotated_around s state l
+      around_same = λ i. annotated (position_of s.numbered) (table_same i) s.homes state.units
 
 -- ---- runs
 
 -- what is run hangs on the program and its names
-run_over : (x y : CoreProgram) (b : Budget) (made : Written) → x.names ≡ y.names → pv.program x ≡ pv.program y → IsRunOf y b made → IsRunOf x b made
-run_over x y b made names same run =
+run_over : (x y : CoreProgram) (how : OnFailure) (b : Budget) (made : Written) → x.names ≡ y.names → pv.program x ≡ pv.program y
+    → IsRunOf y how b made → IsRunOf x how b made
+run_over x y how b made names same run =
     let renamed = sym names in
     let other = sym same in
     record {
@@ -140,76 +148,94 @@ run_over x y b made names same run =
           program = run.is_run.stripped.program ∙ ap stripped.program other;
           names_same = run.is_run.stripped.names_same ∙ renamed;
           known_same = run.is_run.stripped.known_same ∙ (λ i. known (other i) (renamed i));
+          failing_same = run.is_run.stripped.failing_same;
+          checked_same = λ (e : how ≡ reports). run.is_run.stripped.checked_same e ∙ other;
         };
         valid = run.is_run.valid;
         first = run.is_run.first;
-        is_turn = run.is_run.is_turn ∙ (λ i. option_map (main_turn (setting_of run.is_run.around) (other i) (renamed i) b.depth) (new_isolate (other i) b));
+        is_turn = run.is_run.is_turn ∙ (λ i. option_map (main_turn (setting_of run.is_run.around) (other i) (renamed i) how b.depth) (new_isolate (other i) b));
       };
-      is_written = run.is_written ∙ (λ i. written (other i).units run.turn);
+      is_written = run.is_written ∙ (λ i. written (other i).units (other i).sites run.turn);
     }
 
-module _ (texts : List Text) (distinct : AreDistinct texts) (b : Budget) where
-  one_run : (k l : Classes) (of : c.Program Text) (x y : CoreProgram) (made other : Written) → IsCoreOf texts k of x → IsCoreOf texts l of y → IsRunOf x b made → IsRunOf y b other → made ≡ other
-  one_run k l of x y made other is so run also =
-      let names : x.names ≡ y.names = is.names ∙ sym so.names in
-      let shown : named.program (pv.text_at texts) (pv.program x) ≡ named.program (pv.text_at texts) (pv.program y) =
-      ap (λ (t : List Text). named.program (pv.text_at t) (pv.program x)) (sym is.names) ∙ is.same ∙ sym so.same
-      ∙ ap (λ (t : List Text). named.program (pv.text_at t) (pv.program y)) so.names in
-      let same : pv.program x ≡ pv.program y = same_numbers texts distinct (pv.program x) (pv.program y) is.within so.within shown in
-      run_is_one x b made other run (run_over x y b other names same also)
+-- ---- one program in two modes
 
-  one_run_if : (isolates : Bool) (k l : Classes) (of : c.Program Text) (x y : Execution) → RunsIf isolates texts k of b x → RunsIf isolates texts l of b y → x ≡ y
-  one_run_if true k l of x y is so = is ∙ sym so
-  one_run_if false k l of x y (core, made, is, run, e) (other, more, so, also, f) =
-      e ∙ ap Ran (one_run k l of core other made more is so run also) ∙ sym f
+-- What holds of an answer and itself, and of what is written of one core's runs in these modes, holds of what becomes of one program.
+module _ (mode other : Mode) (b : Budget) (Alike : Execution → Execution → Type 0) (itself : (x : Execution) → Alike x x)
+    (runs : (x : CoreProgram) (made also : Written) → IsRunOf x (on_failure mode) b made → IsRunOf x (on_failure other) b also
+    → Alike (Ran made) (Ran also)) where
+  same : (x y : Execution) → x ≡ y → Alike x y
+  same x y e = subst (Alike x) e (itself x)
 
-  one_follows : (state : State) (k l : Classes) (answer : p.Answer) (x y : Execution) → Follows state texts k b answer x → Follows state texts l b answer y → x ≡ y
-  one_follows state k l (p.accepted of) x y is so = one_run_if (mentions_isolate state) k l of x y is so
-  one_follows state k l (p.rejected why) x y is so = is ∙ sym so
-  one_follows state k l p.not_built x y is so = is ∙ sym so
+  module _ (texts : List Text) (distinct : AreDistinct texts) where
+    alike_runs : (k l : Classes) (of : c.Program Text) (x y : CoreProgram) (made also : Written) → IsCoreOf texts k of x → IsCoreOf texts l of y
+        → IsRunOf x (on_failure mode) b made → IsRunOf y (on_failure other) b also → Alike (Ran made) (Ran also)
+    alike_runs k l of x y made also is so run ran =
+        let names : x.names ≡ y.names = is.names ∙ sym so.names in
+        let shown : named.program (pv.text_at texts) (pv.program x) ≡ named.program (pv.text_at texts) (pv.program y) =
+        ap (λ (t : List Text). named.program (pv.text_at t) (pv.program x)) (sym is.names) ∙ is.same ∙ sym so.same
+        ∙ ap (λ (t : List Text). named.program (pv.text_at t) (pv.program y)) so.names in
+        let programs : pv.program x ≡ pv.program y = same_numbers texts distinct (pv.program x) (pv.program y) is.within so.within shown in
+        runs x made also run (run_over x y (on_failure other) b also names programs ran)
 
--- ---- the whole
+    alike_runs_if : (isolates : Bool) (k l : Classes) (of : c.Program Text) (x y : Execution) → RunsIf isolates texts k of mode b x
+        → RunsIf isolates texts l of other b y → Alike x y
+    alike_runs_if true k l of x y is so = same x y (is ∙ sym so)
+    alike_runs_if false k l of x y (core, made, is, run, e) (again, also, so, ran, f) =
+        subst (λ u. Alike u y) (sym e) (subst (Alike (Ran made)) (sym f) (alike_runs k l of core again made also is so run ran))
 
-module _ (state : State) (s : Scoping) (distinct : AreDistinct s.texts) (b : Budget) where
-  one_translated : (x y : Execution) → IsTranslated state s b x → IsTranslated state s b y → x ≡ y
-  one_translated x y is so =
-      let tables = one_built (class_given s) (source_units state) s.texts distinct is.table.built so.table.built is.table.is_built so.table.is_built in
-      let same = stay_equal s is.table.built so.table.built is.classes so.classes is.table.numbered so.table.numbered tables.classes tables.members tables.function in
-      let mains : is.main ≡ so.main = same_Some is.main so.main (sym is.starts ∙ so.starts) in
-      let given : given_of s state so.classes so.main ≡ given_of s state is.classes is.main =
-      ap (given_of s state so.classes) (sym mains) ∙ sym (given_same state s is.main is.classes so.classes same.0 same.1 (is.table.numbered.function ∙ tables.function ∙ sym so.table.numbered.function)) in
-      one_follows s.texts distinct b state is.classes so.classes (p.core (given_of s state is.classes is.main)) x y is.follows
-      (subst (λ (g : p.Given). Follows state s.texts so.classes b (p.core g) y) given so.follows)
+    alike_follows : (state : State) (k l : Classes) (answer : p.Answer) (x y : Execution) → Follows state texts k mode b answer x
+        → Follows state texts l other b answer y → Alike x y
+    alike_follows state k l (p.accepted of) x y is so = alike_runs_if (mentions_isolate state) k l of x y is so
+    alike_follows state k l (p.rejected why) x y is so = same x y (is ∙ sym so)
+    alike_follows state k l p.not_built x y is so = same x y (is ∙ sym so)
 
-  refusal_or_translated : (x y : Execution) → IsRefusedBy state s x → IsTranslated state s b y → ⊥
-  refusal_or_translated x y (f, refused, e) so = fault_or_built (class_given s) (source_units state) s.texts distinct f so.table.built refused so.table.is_built
+  -- ---- the whole
 
-  large_or_translated : (x y : Execution) → IsTooLarge state s x → IsTranslated state s b y → ⊥
-  large_or_translated x y (place, large, e) so = large_or_built (class_given s) (source_units state) s.texts distinct place so.table.built large so.table.is_built
+  module _ (state : State) (s : Scoping) (distinct : AreDistinct s.texts) where
+    alike_translated : (x y : Execution) → IsTranslated state s mode b x → IsTranslated state s other b y → Alike x y
+    alike_translated x y is so =
+        let tables = one_built (class_given s) (source_units state) s.texts distinct is.table.built so.table.built is.table.is_built so.table.is_built in
+        let seen = stay_equal s is.table.built so.table.built is.classes so.classes is.table.numbered so.table.numbered tables.classes tables.members tables.function in
+        let mains : is.main ≡ so.main = same_Some is.main so.main (sym is.starts ∙ so.starts) in
+        let given : given_of s state so.classes so.main ≡ given_of s state is.classes is.main =
+        ap (given_of s state so.classes) (sym mains) ∙ sym (given_same state s is.main is.classes so.classes seen.0 seen.1 (is.table.numbered.function ∙ tables.function ∙ sym so.table.numbered.function)) in
+        alike_follows s.texts distinct state is.classes so.classes (p.core (given_of s state is.classes is.main)) x y is.follows
+        (subst (λ (g : p.Given). Follows state s.texts so.classes other b (p.core g) y) given so.follows)
 
-  refusal_or_large : (x y : Execution) → IsRefusedBy state s x → IsTooLarge state s y → ⊥
-  refusal_or_large x y (f, refused, e) (place, large, g) = fault_or_large (class_given s) (source_units state) s.texts distinct f place refused large
+    refusal_or_translated : (how : Mode) (x y : Execution) → IsRefusedBy state s x → IsTranslated state s how b y → ⊥
+    refusal_or_translated how x y (f, refused, e) so = fault_or_built (class_given s) (source_units state) s.texts distinct f so.table.built refused so.table.is_built
 
-  one_refusal : (x y : Execution) → IsRefusedBy state s x → IsRefusedBy state s y → x ≡ y
-  one_refusal x y (f, refused, e) (g, also, h) =
-      e ∙ ap (λ (t : Fault). Refused t.place (class_cause t.reason)) (one_fault (class_given s) (source_units state) s.texts distinct f g refused also) ∙ sym h
+    large_or_translated : (how : Mode) (x y : Execution) → IsTooLarge state s x → IsTranslated state s how b y → ⊥
+    large_or_translated how x y (place, large, e) so = large_or_built (class_given s) (source_units state) s.texts distinct place so.table.built large so.table.is_built
 
-  one_large : (x y : Execution) → IsTooLarge state s x → IsTooLarge state s y → x ≡ y
-  one_large x y (place, large, e) (other, also, h) =
-      e ∙ ap (λ (t : Place). Refused t cause.TypesTooLarge) (one_place (class_given s) (source_units state) s.texts distinct place other large also) ∙ sym h
+    refusal_or_large : (x y : Execution) → IsRefusedBy state s x → IsTooLarge state s y → ⊥
+    refusal_or_large x y (f, refused, e) (place, large, g) = fault_or_large (class_given s) (source_units state) s.texts distinct f place refused large
 
-  one_in : (x y : Execution) → ExecutesIn state s b x → ExecutesIn state s b y → x ≡ y
-  one_in x y (inl is) (inl so) = one_refusal x y is so
-  one_in x y (inl is) (inr (inl so)) = absurd (refusal_or_large x y is so)
-  one_in x y (inl is) (inr (inr so)) = absurd (refusal_or_translated x y is so)
-  one_in x y (inr (inl is)) (inl so) = absurd (refusal_or_large y x so is)
-  one_in x y (inr (inl is)) (inr (inl so)) = one_large x y is so
-  one_in x y (inr (inl is)) (inr (inr so)) = absurd (large_or_translated x y is so)
-  one_in x y (inr (inr is)) (inl so) = absurd (refusal_or_translated y x so is)
-  one_in x y (inr (inr is)) (inr (inl so)) = absurd (large_or_translated y x so is)
-  one_in x y (inr (inr is)) (inr (inr so)) = one_translated x y is so
+    one_refusal : (x y : Execution) → IsRefusedBy state s x → IsRefusedBy state s y → x ≡ y
+    one_refusal x y (f, refused, e) (g, also, h) =
+        e ∙ ap (λ (t : Fault). Refused t.place (class_cause t.reason)) (one_fault (class_given s) (source_units state) s.texts distinct f g refused also) ∙ sym h
 
--- What becomes of a loaded program within a budget is one thing.
-pub one_execution : (state : State) (b : Budget) (x y : Execution) → Executes state b x → Executes state b y → x ≡ y
-one_execution state b x y (s, is, distinct, found) (t, so, also, other) =
-    one_in state s distinct b x y found (subst (λ (r : Scoping). ExecutesIn state r b y) (one_scoping state s t is so) other)
+    one_large : (x y : Execution) → IsTooLarge state s x → IsTooLarge state s y → x ≡ y
+    one_large x y (place, large, e) (at, also, h) =
+        e ∙ ap (λ (t : Place). Refused t cause.TypesTooLarge) (one_place (class_given s) (source_units state) s.texts distinct place at large also) ∙ sym h
+
+    alike_in : (x y : Execution) → ExecutesIn state s mode b x → ExecutesIn state s other b y → Alike x y
+    alike_in x y (inl is) (inl so) = same x y (one_refusal x y is so)
+    alike_in x y (inl is) (inr (inl so)) = absurd (refusal_or_large x y is so)
+    alike_in x y (inl is) (inr (inr so)) = absurd (refusal_or_translated other x y is so)
+    alike_in x y (inr (inl is)) (inl so) = absurd (refusal_or_large y x so is)
+    alike_in x y (inr (inl is)) (inr (inl so)) = same x y (one_large x y is so)
+    alike_in x y (inr (inl is)) (inr (inr so)) = absurd (large_or_translated other x y is so)
+    alike_in x y (inr (inr is)) (inl so) = absurd (refusal_or_translated mode y x so is)
+    alike_in x y (inr (inr is)) (inr (inl so)) = absurd (large_or_translated mode y x so is)
+    alike_in x y (inr (inr is)) (inr (inr so)) = alike_translated x y is so
+
+  pub alike_executions : (state : State) (x y : Execution) → Executes state mode b x → Executes state other b y → Alike x y
+  alike_executions state x y (s, is, distinct, found) (t, so, also, found_too) =
+      alike_in state s distinct x y found (subst (λ (r : Scoping). ExecutesIn state r other b y) (one_scoping state s t is so) found_too)
+
+-- What becomes of a loaded program in a mode and within a budget is one thing.
+pub one_execution : (state : State) (mode : Mode) (b : Budget) (x y : Execution) → Executes state mode b x → Executes state mode b y → x ≡ y
+one_execution state mode b =
+    alike_executions mode mode b (λ x y. x ≡ y) (λ x. refl) (λ x made also r s. ap Ran (run_is_one x (on_failure mode) b made also r s)) state

@@ -16,6 +16,7 @@ use Rattle.core_program.specs.Program as core
 use Rattle.core_program.specs.ProgramView.{text_program, program}
 use Rattle.core_names.specs.Within.{AreWithin}
 use Rattle.dart_words.specs.declared.budget.Budget as words
+use Rattle.dart_words.specs.declared.options.Options.{Options}
 use Rattle.evaluation.specs.Turn.{Budget}
 use Rattle.scope_load.specs.State.{State}
 use Rattle.scope_load.specs.declared.loaded.Link.{Link}
@@ -27,7 +28,9 @@ use Rattle.dart_class.specs.Given.{class_given, source_units}
 use Rattle.dart_lower.specs.Given.{given_of}
 use Rattle.table_accessor.specs.Numbered.{IsNumbered}
 use Rattle.lower_core.specs.Runnable as runnable
-use Rattle.dart_run.specs.Run.{IsRunOf}
+use Rattle.dart_run.specs.Run.{IsRunOf, on_failure}
+use Rattle.dart_run.specs.declared.mode.Mode.{Mode}
+use Rattle.dart_run.specs.declared.mode.Mode.TheVariants.{Production, Checked}
 use Rattle.dart_run.specs.declared.written.Written.{Written}
 use Rattle.dart_execute.specs.declared.cause.Cause.{Cause}
 use Rattle.dart_execute.specs.declared.cause.Cause.TheVariants as cause
@@ -68,17 +71,17 @@ pub record IsCoreOf (texts : List Text) (k : Classes) (of : core.Program Text) (
   pub same : text_program x ≡ runnable.program of
   pub within : AreWithin (length texts) (program x)
 
--- A program with a core runs, within a budget. What may start isolates isn't built.
-abbrev pub RunsIf : Bool → List Text → Classes → core.Program Text → Budget → Execution → Type 0
-RunsIf true texts k of budget out = out ≡ NotBuilt
-RunsIf false texts k of budget out =
-    (x : CoreProgram) × (made : Written) × IsCoreOf texts k of x × IsRunOf x budget made × (out ≡ Ran made)
+-- A program with a core runs, in a mode and within a budget. What may start isolates isn't built.
+abbrev pub RunsIf : Bool → List Text → Classes → core.Program Text → Mode → Budget → Execution → Type 0
+RunsIf true texts k of mode budget out = out ≡ NotBuilt
+RunsIf false texts k of mode budget out =
+    (x : CoreProgram) × (made : Written) × IsCoreOf texts k of x × IsRunOf x (on_failure mode) budget made × (out ≡ Ran made)
 
 -- What becomes of a program of which translation says this.
-abbrev pub Follows : State → List Text → Classes → Budget → p.Answer → Execution → Type 0
-Follows state texts k budget (p.accepted of) out = RunsIf (mentions_isolate state) texts k of budget out
-Follows state texts k budget (p.rejected why) out = out ≡ Refused (p.place_of why) (core_cause why)
-Follows state texts k budget p.not_built out = out ≡ NotBuilt
+abbrev pub Follows : State → List Text → Classes → Mode → Budget → p.Answer → Execution → Type 0
+Follows state texts k mode budget (p.accepted of) out = RunsIf (mentions_isolate state) texts k of mode budget out
+Follows state texts k mode budget (p.rejected why) out = out ≡ Refused (p.place_of why) (core_cause why)
+Follows state texts k mode budget p.not_built out = out ≡ NotBuilt
 
 -- ---- the whole
 
@@ -89,12 +92,12 @@ pub record IsTableOf (state : State) (s : Scoping) (k : Classes) : Type 0 where
   pub numbered : IsNumbered s built k
 
 -- It is translated over that table, and starts at its function `main`.
-pub record IsTranslated (state : State) (s : Scoping) (budget : Budget) (out : Execution) : Type 0 where
+pub record IsTranslated (state : State) (s : Scoping) (mode : Mode) (budget : Budget) (out : Execution) : Type 0 where
   pub classes : Classes
   pub main : ℕ
   pub table : IsTableOf state s classes
   pub starts : s.main ≡ Some main
-  pub follows : Follows state s.texts classes budget (p.core (given_of s state classes main)) out
+  pub follows : Follows state s.texts classes mode budget (p.core (given_of s state classes main)) out
 
 -- the first header that is refused, or that is too large
 abbrev pub IsRefusedBy : State → Scoping → Execution → Type 0
@@ -104,13 +107,22 @@ abbrev pub IsTooLarge : State → Scoping → Execution → Type 0
 IsTooLarge state s out = (place : Place) × IsOverlargeIn (class_given s) (source_units state) s.texts place × (out ≡ Refused place cause.TypesTooLarge)
 
 -- It is refused for a header, or translated.
-abbrev pub ExecutesIn : State → Scoping → Budget → Execution → Type 0
-ExecutesIn state s budget out = IsRefusedBy state s out ⊎ (IsTooLarge state s out ⊎ IsTranslated state s budget out)
+abbrev pub ExecutesIn : State → Scoping → Mode → Budget → Execution → Type 0
+ExecutesIn state s mode budget out = IsRefusedBy state s out ⊎ (IsTooLarge state s out ⊎ IsTranslated state s mode budget out)
 
--- What becomes of a loaded program within a budget, whose names mean this. No text has two numbers.
-abbrev pub Executes : State → Budget → Execution → Type 0
-Executes state budget out = (s : Scoping) × IsScoping state s × AreDistinct s.texts × ExecutesIn state s budget out
+-- What becomes of a loaded program in a mode and within a budget, whose names mean this. No text has two numbers.
+abbrev pub Executes : State → Mode → Budget → Execution → Type 0
+Executes state mode budget out = (s : Scoping) × IsScoping state s × AreDistinct s.texts × ExecutesIn state s mode budget out
+
+-- the mode that words ask for: checked mode where they say so
+abbrev pub asked_mode : Bool → Mode
+asked_mode false = Production
+asked_mode true = Checked
 
 -- what a run may use, within the budget that words give
 abbrev pub allowed : words.Budget → Budget
 allowed budget = record { steps = budget.steps; units = budget.units; depth = NESTED_CALLS }
+
+-- What becomes of a loaded program as the options of words ask.
+abbrev pub ExecutesAs : State → Options → Execution → Type 0
+ExecutesAs state options out = Executes state (asked_mode options.checked) (allowed options.budget) out

@@ -9,7 +9,7 @@ ghost use Rattle.scope_load.specs.State.{state_of};
 ghost use Rattle.scope_program.specs.Made.{AreScopesOf};
 ghost use Rattle.scope_program.specs.Program.{Scoping};
 ghost use Rattle.translation.specs.Program as p;
-ghost use Rattle.dart_execute.specs.Execution.{Executes, Follows, IsCoreOf, RunsIf, allowed, mentions_isolate};
+ghost use Rattle.dart_execute.specs.Execution.{ExecutesAs, Follows, IsCoreOf, RunsIf, allowed, asked_mode, mentions_isolate};
 ghost use Rattle.dart_execute.specs.Joined.{IsJoined};
 
 use crate::cause::{Cause, core_cause};
@@ -24,9 +24,11 @@ use dart_class::build::build;
 use dart_ir::class::Classes;
 use dart_ir::number::DeclId;
 use dart_lower::lower::lower;
+use dart_run::mode::Mode;
 use dart_run::run::run_program;
 use dart_run::written::Written;
 use dart_words::budget::Budget;
+use dart_words::options::Options;
 use lower_core::program::core_program;
 use lower_leaf::fault::Want;
 use lower_program::program::{Outcome, Program};
@@ -78,6 +80,16 @@ fn limits_of(budget: Budget) -> Limits
     }
 }
 
+fn asked_mode(checked: bool) -> Mode
+    ensures { result ≡ asked_mode checked }
+{
+    if checked {
+        Mode::Checked
+    } else {
+        Mode::Production
+    }
+}
+
 // A translated program runs, unless it may start isolates.
 fn run_translated(
     alloc: Global,
@@ -85,18 +97,19 @@ fn run_translated(
     names: Names,
     classes: Classes,
     translated: Program,
-    budget: Budget,
+    options: Options,
 ) -> Result<Execution, Want>
     requires valid { IsValid classes }
-    requires units { budget.units < 2 ^ 32 }
+    requires units { options.budget.units < 2 ^ 32 }
     ensures { IfOk result (λ out. (a : Around) → a.texts ≡ names → IsJoined a translated.classes classes
-        → RunsIf (mentions_isolate (state_of loaded.now)) names classes (views.program a translated) (allowed budget) out) }
+        → RunsIf (mentions_isolate (state_of loaded.now)) names classes (views.program a translated) (asked_mode options.checked) (allowed options.budget) out) }
 {
     if mentions_isolate(loaded) {
         return Ok(Execution::NotBuilt);
     }
     let core = joined_core(alloc, names, classes, translated)?;
-    match run_program(alloc, &core, limits_of(budget)) {
+    let mode = asked_mode(options.checked);
+    match run_program(alloc, &core, mode, limits_of(options.budget)) {
         Ok(made) => Ok(Execution::Ran(made)),
         Err(_) => Err(Want),
     }
@@ -108,12 +121,13 @@ fn translate(
     loaded: &Loaded,
     scopes: ProgramScopes,
     classes: Classes,
-    budget: Budget,
+    options: Options,
 ) -> Result<Execution, Want>
     requires valid { IsValid classes }
-    requires units { budget.units < 2 ^ 32 }
+    requires units { options.budget.units < 2 ^ 32 }
     ensures { IfOk result (λ out. (s : Scoping) → AreScopesOf s scopes → (main : ℕ) × (s.main ≡ Some main)
-        × Follows (state_of loaded.now) s.texts classes (allowed budget) (p.core (given_of s (state_of loaded.now) classes main)) out) }
+        × Follows (state_of loaded.now) s.texts classes (asked_mode options.checked) (allowed options.budget)
+        (p.core (given_of s (state_of loaded.now) classes main)) out) }
 {
     let Some(main) = scopes.main else {
         return Err(Want);
@@ -122,23 +136,23 @@ fn translate(
         Outcome::Rejected(why) => Ok(Execution::Refused(place_of(why), core_cause(why))),
         Outcome::NotBuilt => Ok(Execution::NotBuilt),
         Outcome::Accepted(translated) => {
-            run_translated(alloc, loaded, scopes.names, classes, translated, budget)
+            run_translated(alloc, loaded, scopes.names, classes, translated, options)
         }
     }
 }
 
 /// What becomes of a loaded program against which nothing stands yet: it is refused for its classes, or for what translation finds, or it
-/// runs within the budget (ECMA-408, 10 Classes, 18.4 Scripts). `Want` where memory or numbers run out.
-pub fn execute(alloc: Global, loaded: &Loaded, budget: Budget) -> Result<Execution, Want>
-    requires { budget.units < 2 ^ 32 }
-    ensures { IfOk result (Executes (state_of loaded.now) (allowed budget)) }
+/// runs as the options ask (ECMA-408, 10 Classes, 18.4 Scripts). `Want` where memory or numbers run out.
+pub fn execute(alloc: Global, loaded: &Loaded, options: Options) -> Result<Execution, Want>
+    requires { options.budget.units < 2 ^ 32 }
+    ensures { IfOk result (ExecutesAs (state_of loaded.now) options) }
 {
     let scopes = program_scopes(alloc, loaded)?;
     let _count = scopes.names.count();
     match build(alloc, &scopes, loaded) {
         Ok(classes) => {
             let numbered = number_accessors(alloc, &scopes, classes)?;
-            translate(alloc, loaded, scopes, numbered, budget)
+            translate(alloc, loaded, scopes, numbered, options)
         }
         Err(ClassFault::CyclicClasses(place)) => {
             Ok(Execution::Refused(place, Cause::CyclicClasses))

@@ -1,3 +1,4 @@
+pub mod CheckedLaws
 pub mod LanguageLaws
 pub mod Outcomes
 pub mod ProgramLaws

@@ -3,7 +3,7 @@ use Rattle.std.specs.Prelude.{IfSome, IfOk, Result, Ok, Err, ◌↔◌}
 use Rattle.std.proofs.Common.{◌≡◌, ◌∙◌, sym, ap, refl, subst, ℕ, List, Option, None, Some, inl, inr}
 use Rattle.dart_edge.specs.Files.{Files, file_of}
 use Rattle.dart_edge.specs.Writes.{IsPrefix, WrotePrefix}
-use Rattle.dart_words.specs.declared.budget.Budget.{Budget}
+use Rattle.dart_words.specs.declared.options.Options.{Options}
 use Rattle.dart_run.specs.declared.written.Written.{Written}
 use Rattle.dart_words.specs.declared.words.Verb.{Verb}
 use Rattle.dart_words.specs.declared.words.Verb.TheVariants as v
@@ -13,7 +13,7 @@ use Rattle.dart_tool.specs.declared.program.FileRefusal.{FileRefusal}
 use Rattle.dart_tool.specs.declared.run.Ended.{Ended}
 use Rattle.dart_tool.specs.declared.run.Ended.TheVariants.{Printed, Whole}
 use Rattle.dart_tool.specs.declared.status.Status.{Status}
-use Rattle.dart_tool.specs.declared.status.Status.TheVariants.{Done, Usage, Refused, Uncaught, Limit, ReadFault, WriteFault, Memory}
+use Rattle.dart_tool.specs.declared.status.Status.TheVariants.{Done, Usage, Refused, Uncaught, CheckFailed, Limit, ReadFault, WriteFault, Memory}
 use Rattle.dart_tool.specs.declared.status.Refusal.{Refusal}
 use Rattle.dart_tool.specs.declared.status.Refusal.TheVariants.{NotFound, NotBuilt}
 use Rattle.dart_tool.specs.Language.{IsNoUnitFor, usual, RefusedFor, Runs, Writes, GivesEnd, DifferInAnnotationsAlone}
@@ -24,42 +24,42 @@ use Rattle.dart_tool.specs.Tool.{Answers, CutShort, Delivers}
 use Rattle.dart_tool.proofs.LanguageLaws.{one_refusal, one_run, one_written, run_unrefused, run_unwritten, written_unrefused, file_unread}
 use Rattle.dart_tool.proofs.UnitLaws.{one_reason_for, one_erased, erased_unrefused, erased_or_refused}
 
-pub one_file_outcome : (name : List ℕ) (files : Files) (budget : Budget) (content : Option (List ℕ)) (a b : Outcome) → FileGives name files budget content a → FileGives name files budget content b → a ≡ b
-one_file_outcome name files budget None a b x y = x ∙ sym y
-one_file_outcome name files budget (Some text) a b (inl (against, has, e)) (inl (also, other, f)) = e ∙ ap (λ (r : FileRefusal). refused r.why r.file) (one_refusal files name text budget against also has other) ∙ sym f
-one_file_outcome name files budget (Some text) a b (inl (against, has, e)) (inr (inl (run, runs, f))) = absurd (run_unrefused files name text budget run against runs has)
-one_file_outcome name files budget (Some text) a b (inl (against, has, e)) (inr (inr (inl (made, writes, f)))) = absurd (written_unrefused files name text budget made against writes has)
-one_file_outcome name files budget (Some text) a b (inl (against, has, e)) (inr (inr (inr (none, no_run, nothing, f)))) = absurd (none against has)
-one_file_outcome name files budget (Some text) a b (inr (inl (run, runs, e))) (inl (against, has, f)) = absurd (run_unrefused files name text budget run against runs has)
-one_file_outcome name files budget (Some text) a b (inr (inl (run, runs, e))) (inr (inl (other, also, f))) = e ∙ ap transcript (one_run text budget run other runs also) ∙ sym f
-one_file_outcome name files budget (Some text) a b (inr (inl (run, runs, e))) (inr (inr (inl (made, writes, f)))) = absurd (run_unwritten files name text budget run made runs writes)
-one_file_outcome name files budget (Some text) a b (inr (inl (run, runs, e))) (inr (inr (inr (none, no_run, nothing, f)))) = absurd (no_run run runs)
-one_file_outcome name files budget (Some text) a b (inr (inr (inl (made, writes, e)))) (inl (against, has, f)) = absurd (written_unrefused files name text budget made against writes has)
-one_file_outcome name files budget (Some text) a b (inr (inr (inl (made, writes, e)))) (inr (inl (run, runs, f))) = absurd (run_unwritten files name text budget run made runs writes)
-one_file_outcome name files budget (Some text) a b (inr (inr (inl (made, writes, e)))) (inr (inr (inl (other, also, f)))) = e ∙ ap written_outcome (one_written files name text budget made other writes also) ∙ sym f
-one_file_outcome name files budget (Some text) a b (inr (inr (inl (made, writes, e)))) (inr (inr (inr (none, no_run, nothing, f)))) = absurd (nothing made writes)
-one_file_outcome name files budget (Some text) a b (inr (inr (inr (none, no_run, nothing, e)))) (inl (against, has, f)) = absurd (none against has)
-one_file_outcome name files budget (Some text) a b (inr (inr (inr (none, no_run, nothing, e)))) (inr (inl (run, runs, f))) = absurd (no_run run runs)
-one_file_outcome name files budget (Some text) a b (inr (inr (inr (none, no_run, nothing, e)))) (inr (inr (inl (made, writes, f)))) = absurd (nothing made writes)
-one_file_outcome name files budget (Some text) a b (inr (inr (inr (none, no_run, nothing, e)))) (inr (inr (inr (none', no_run', nothing', f)))) = e ∙ sym f
+pub one_file_outcome : (name : List ℕ) (files : Files) (options : Options) (content : Option (List ℕ)) (a b : Outcome) → FileGives name files options content a → FileGives name files options content b → a ≡ b
+one_file_outcome name files options None a b x y = x ∙ sym y
+one_file_outcome name files options (Some text) a b (inl (against, has, e)) (inl (also, other, f)) = e ∙ ap (λ (r : FileRefusal). refused r.why r.file) (one_refusal files name text options against also has other) ∙ sym f
+one_file_outcome name files options (Some text) a b (inl (against, has, e)) (inr (inl (run, runs, f))) = absurd (run_unrefused files name text options run against runs has)
+one_file_outcome name files options (Some text) a b (inl (against, has, e)) (inr (inr (inl (made, writes, f)))) = absurd (written_unrefused files name text options made against writes has)
+one_file_outcome name files options (Some text) a b (inl (against, has, e)) (inr (inr (inr (none, no_run, nothing, f)))) = absurd (none against has)
+one_file_outcome name files options (Some text) a b (inr (inl (run, runs, e))) (inl (against, has, f)) = absurd (run_unrefused files name text options run against runs has)
+one_file_outcome name files options (Some text) a b (inr (inl (run, runs, e))) (inr (inl (other, also, f))) = e ∙ ap transcript (one_run text options run other runs also) ∙ sym f
+one_file_outcome name files options (Some text) a b (inr (inl (run, runs, e))) (inr (inr (inl (made, writes, f)))) = absurd (run_unwritten files name text options run made runs writes)
+one_file_outcome name files options (Some text) a b (inr (inl (run, runs, e))) (inr (inr (inr (none, no_run, nothing, f)))) = absurd (no_run run runs)
+one_file_outcome name files options (Some text) a b (inr (inr (inl (made, writes, e)))) (inl (against, has, f)) = absurd (written_unrefused files name text options made against writes has)
+one_file_outcome name files options (Some text) a b (inr (inr (inl (made, writes, e)))) (inr (inl (run, runs, f))) = absurd (run_unwritten files name text options run made runs writes)
+one_file_outcome name files options (Some text) a b (inr (inr (inl (made, writes, e)))) (inr (inr (inl (other, also, f)))) = e ∙ ap written_outcome (one_written files name text options made other writes also) ∙ sym f
+one_file_outcome name files options (Some text) a b (inr (inr (inl (made, writes, e)))) (inr (inr (inr (none, no_run, nothing, f)))) = absurd (nothing made writes)
+one_file_outcome name files options (Some text) a b (inr (inr (inr (none, no_run, nothing, e)))) (inl (against, has, f)) = absurd (none against has)
+one_file_outcome name files options (Some text) a b (inr (inr (inr (none, no_run, nothing, e)))) (inr (inl (run, runs, f))) = absurd (no_run run runs)
+one_file_outcome name files options (Some text) a b (inr (inr (inr (none, no_run, nothing, e)))) (inr (inr (inl (made, writes, f)))) = absurd (nothing made writes)
+one_file_outcome name files options (Some text) a b (inr (inr (inr (none, no_run, nothing, e)))) (inr (inr (inr (none', no_run', nothing', f)))) = e ∙ sym f
 
 -- a root that comes to a run, or writes something
-pub ended_given : (told : Option Files) (name text : List ℕ) (budget : Budget) (ended : Ended) (out : Outcome) → GivesEnd told name text budget (Some ended) → out ≡ ended_outcome ended → WhereHas told name text (λ files. FileGives name files budget (Some text) out)
-ended_given None name text budget ended out gives is = tt
-ended_given (Some files) name text budget (Printed printed) out (run, runs, print) is = λ has.
+pub ended_given : (told : Option Files) (name text : List ℕ) (options : Options) (ended : Ended) (out : Outcome) → GivesEnd told name text options (Some ended) → out ≡ ended_outcome ended → WhereHas told name text (λ files. FileGives name files options (Some text) out)
+ended_given None name text options ended out gives is = tt
+ended_given (Some files) name text options (Printed printed) out (run, runs, print) is = λ has.
     let same : transcript_of printed.bytes printed.ending ≡ transcript run = λ i. transcript_of (print.0 i) (print.1 i) in
     inr (inl (run, runs, is ∙ same))
-ended_given (Some files) name text budget (Whole made) out gives is = λ has. inr (inr (inl (made, gives has, is)))
+ended_given (Some files) name text options (Whole made) out gives is = λ has. inr (inr (inl (made, gives has, is)))
 
 -- one that is refused for no reason, comes to no run and writes nothing
-pub not_built : (told : Option Files) (name text : List ℕ) (budget : Budget) (out : Outcome) → WhereHas told name text (λ files. (against : FileRefusal) → RefusedFor files name text budget against → ⊥) → GivesEnd told name text budget None → out ≡ refused NotBuilt name → WhereHas told name text (λ files. FileGives name files budget (Some text) out)
-not_built None name text budget out no_reason none is = tt
-not_built (Some files) name text budget out no_reason (no_run, nothing) is = λ has. inr (inr (inr (no_reason has, no_run, nothing has, is)))
+pub not_built : (told : Option Files) (name text : List ℕ) (options : Options) (out : Outcome) → WhereHas told name text (λ files. (against : FileRefusal) → RefusedFor files name text options against → ⊥) → GivesEnd told name text options None → out ≡ refused NotBuilt name → WhereHas told name text (λ files. FileGives name files options (Some text) out)
+not_built None name text options out no_reason none is = tt
+not_built (Some files) name text options out no_reason (no_run, nothing) is = λ has. inr (inr (inr (no_reason has, no_run, nothing has, is)))
 
 -- one that is refused
-pub refusal_given : (told : Option Files) (name text : List ℕ) (budget : Budget) (against : FileRefusal) (out : Outcome) → WhereHas told name text (λ files. RefusedFor files name text budget against) → out ≡ refused against.why against.file → WhereHas told name text (λ files. FileGives name files budget (Some text) out)
-refusal_given None name text budget against out refused is = tt
-refusal_given (Some files) name text budget against out refused is = λ has. inl (against, refused has, is)
+pub refusal_given : (told : Option Files) (name text : List ℕ) (options : Options) (against : FileRefusal) (out : Outcome) → WhereHas told name text (λ files. RefusedFor files name text options against) → out ≡ refused against.why against.file → WhereHas told name text (λ files. FileGives name files options (Some text) out)
+refusal_given None name text options against out refused is = tt
+refusal_given (Some files) name text options against out refused is = λ has. inl (against, refused has, is)
 
 -- a file whose text is no unit
 pub erase_refused : {E : Type 0} (name text : List ℕ) (why : Refusal) → IsNoUnitFor text why → (result : Result Outcome E) → IfOk result (λ out. out ≡ refused why name) → IfOk result (λ out. EraseGives name (Some text) out)
@@ -75,23 +75,23 @@ one_erase_outcome name (Some text) a b (inr (bytes, erases, e)) (inr (others, al
     e ∙ ap erased_outcome (one_erased text bytes others erases also) ∙ sym f
 
 one_verb_outcome : (verb : Verb) (name : List ℕ) (files : Files) (content : Option (List ℕ)) (a b : Outcome) → VerbGives verb name files content a → VerbGives verb name files content b → a ≡ b
-one_verb_outcome (v.Run budget) name files content a b x y = one_file_outcome name files budget content a b x y
+one_verb_outcome (v.Run options) name files content a b x y = one_file_outcome name files options content a b x y
 one_verb_outcome v.Erase name files content a b x y = one_erase_outcome name content a b x y
 
 -- what a command gives for a file that isn't there
 pub absent_given : (told : Option Files) (verb : Verb) (name : List ℕ) (content : Option (List ℕ)) (out : Outcome) → content ≡ None → out ≡ refused NotFound name → IfSome told (λ files. file_of files name ≡ content → VerbGives verb name files content out)
 absent_given None verb name content out e is = tt
-absent_given (Some files) (v.Run budget) name content out e is = λ has. subst (λ (c : Option (List ℕ)). FileGives name files budget c out) (sym e) is
+absent_given (Some files) (v.Run options) name content out e is = λ has. subst (λ (c : Option (List ℕ)). FileGives name files options c out) (sym e) is
 absent_given (Some files) v.Erase name content out e is = λ has. subst (λ (c : Option (List ℕ)). EraseGives name c out) (sym e) is
 
 -- what `run` gives for a root that is there
-pub root_given : {E : Type 0} (told : Option Files) (verb : Verb) (budget : Budget) (name : List ℕ) (content : Option (List ℕ)) (text read : List ℕ) (result : Result Outcome E) → verb ≡ v.Run budget → content ≡ Some text → read ≡ text → IfOk result (λ out. WhereHas told name read (λ files. FileGives name files budget (Some read) out)) → IfOk result (λ out. IfSome told (λ files. file_of files name ≡ content → VerbGives verb name files content out))
-root_given told verb budget name content text read (Err error) e f g is = tt
-root_given None verb budget name content text read (Ok out) e f g is = tt
-root_given (Some files) verb budget name content text read (Ok out) e f g is = λ has.
-    let given : FileGives name files budget (Some read) out = is (has ∙ f ∙ ap Some (sym g)) in
+pub root_given : {E : Type 0} (told : Option Files) (verb : Verb) (options : Options) (name : List ℕ) (content : Option (List ℕ)) (text read : List ℕ) (result : Result Outcome E) → verb ≡ v.Run options → content ≡ Some text → read ≡ text → IfOk result (λ out. WhereHas told name read (λ files. FileGives name files options (Some read) out)) → IfOk result (λ out. IfSome told (λ files. file_of files name ≡ content → VerbGives verb name files content out))
+root_given told verb options name content text read (Err error) e f g is = tt
+root_given None verb options name content text read (Ok out) e f g is = tt
+root_given (Some files) verb options name content text read (Ok out) e f g is = λ has.
+    let given : FileGives name files options (Some read) out = is (has ∙ f ∙ ap Some (sym g)) in
     subst (λ (x : Verb). VerbGives x name files content out) (sym e)
-    (subst (λ (c : Option (List ℕ)). FileGives name files budget c out) (ap Some g ∙ sym f) given)
+    (subst (λ (c : Option (List ℕ)). FileGives name files options c out) (ap Some g ∙ sym f) given)
 
 -- what `erase` gives for a file that is there
 pub erased_given : (told : Option Files) (verb : Verb) (name : List ℕ) (content : Option (List ℕ)) (text read : List ℕ) (out : Outcome) → verb ≡ v.Erase → content ≡ Some text → read ≡ text → EraseGives name (Some read) out → IfSome told (λ files. file_of files name ≡ content → VerbGives verb name files content out)
@@ -108,12 +108,12 @@ one_command_outcome (Some command) files a b x y = one_verb_outcome command.verb
 pub one_outcome : (words : List (List ℕ)) (files : Files) (a b : Outcome) → IsOutcome words files a → IsOutcome words files b → a ≡ b
 one_outcome words files a b x y = one_command_outcome (reading words) files a b x y
 
-some_file_outcome : (name : List ℕ) (files : Files) (budget : Budget) (content : Option (List ℕ)) → ((out : Outcome) → FileGives name files budget content out → ⊥) → ⊥
-some_file_outcome name files budget None none = none (refused NotFound name) refl
-some_file_outcome name files budget (Some text) none =
-    let no_reason : (against : FileRefusal) → RefusedFor files name text budget against → ⊥ = λ against has. none (refused against.why against.file) (inl (against, has, refl)) in
-    let no_run : (run : Run) → Runs text budget run → ⊥ = λ run runs. none (transcript run) (inr (inl (run, runs, refl))) in
-    let nothing : (made : Written) → Writes files name text budget made → ⊥ = λ made writes. none (written_outcome made) (inr (inr (inl (made, writes, refl)))) in
+some_file_outcome : (name : List ℕ) (files : Files) (options : Options) (content : Option (List ℕ)) → ((out : Outcome) → FileGives name files options content out → ⊥) → ⊥
+some_file_outcome name files options None none = none (refused NotFound name) refl
+some_file_outcome name files options (Some text) none =
+    let no_reason : (against : FileRefusal) → RefusedFor files name text options against → ⊥ = λ against has. none (refused against.why against.file) (inl (against, has, refl)) in
+    let no_run : (run : Run) → Runs text options run → ⊥ = λ run runs. none (transcript run) (inr (inl (run, runs, refl))) in
+    let nothing : (made : Written) → Writes files name text options made → ⊥ = λ made writes. none (written_outcome made) (inr (inr (inl (made, writes, refl)))) in
     none (refused NotBuilt name) (inr (inr (inr (no_reason, no_run, nothing, refl))))
 
 some_erase_outcome : (name : List ℕ) (content : Option (List ℕ)) → ((out : Outcome) → EraseGives name content out → ⊥) → ⊥
@@ -123,7 +123,7 @@ some_erase_outcome name (Some text) none = erased_or_refused text
     (λ bytes erases. none (erased_outcome bytes) (inr (bytes, erases, refl)))
 
 some_verb_outcome : (verb : Verb) (name : List ℕ) (files : Files) (content : Option (List ℕ)) → ((out : Outcome) → VerbGives verb name files content out → ⊥) → ⊥
-some_verb_outcome (v.Run budget) name files content none = some_file_outcome name files budget content none
+some_verb_outcome (v.Run options) name files content none = some_file_outcome name files options content none
 some_verb_outcome v.Erase name files content none = some_erase_outcome name content none
 
 some_command_outcome : (command : Option Command) (files : Files) → ((out : Outcome) → CommandGives command files out → ⊥) → ⊥
@@ -146,6 +146,7 @@ answers_from_delivered IsDue due Done before after is one h = (due, is, h.0, h.1
 answers_from_delivered IsDue due Usage before after is one h = (due, is, h.0, h.1)
 answers_from_delivered IsDue due Refused before after is one h = (due, is, h.0, h.1)
 answers_from_delivered IsDue due Uncaught before after is one h = (due, is, h.0, h.1)
+answers_from_delivered IsDue due CheckFailed before after is one h = (due, is, h.0, h.1)
 answers_from_delivered IsDue due Limit before after is one h = (due, is, h.0, h.1)
 
 -- a read, and then the delivery of the outcome of what was read

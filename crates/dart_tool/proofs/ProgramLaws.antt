@@ -5,10 +5,10 @@ use Rattle.dart_edge.specs.Files.{Files, file_of}
 use Rattle.dart_execute.specs.declared.cause.Cause.{Cause}
 use Rattle.dart_execute.specs.declared.execution.Execution.{Execution}
 use Rattle.dart_execute.specs.declared.execution.Execution.TheVariants as execution
-use Rattle.dart_execute.specs.Execution.{Executes, allowed}
+use Rattle.dart_execute.specs.Execution.{ExecutesAs, allowed, asked_mode}
 use Rattle.dart_execute.proofs.Once.{one_execution}
 use Rattle.dart_run.specs.declared.written.Written.{Written}
-use Rattle.dart_words.specs.declared.budget.Budget.{Budget}
+use Rattle.dart_words.specs.declared.options.Options.{Options}
 use Rattle.scope_files.specs.declared.check.Checked.{Checked}
 use Rattle.scope_files.specs.declared.check.Checked.TheVariants.{Sound, Against}
 use Rattle.scope_files.specs.Files.{Found, NameGives, known}
@@ -80,50 +80,50 @@ module _ (files : Files) (root : List ℕ) where
       let same : state ≡ other = one_end (NameGives (Some files)) root (one_name files) state other sound.loads.0 also.0 in
       let both : ◌≡◌ {A = Option ProgramReason} None (Some reason) = sym sound.sound ∙ ap program_reason same ∙ is in absurd cc
 
-  -- its units are these alone, so within a budget one thing becomes of it
-  one_executed : (budget : Budget) (state other : State) (x y : Execution) → IsSound files root state → IsSound files root other → Executes state (allowed budget) x → Executes other (allowed budget) y → x ≡ y
-  one_executed budget state other x y sound also is so =
+  -- its units are these alone, so one thing becomes of it as the options ask
+  one_executed : (options : Options) (state other : State) (x y : Execution) → IsSound files root state → IsSound files root other → ExecutesAs state options x → ExecutesAs other options y → x ≡ y
+  one_executed options state other x y sound also is so =
       let same : other ≡ state = one_end (NameGives (Some files)) root (one_name files) other state also.loads.0 sound.loads.0 in
-      one_execution state (allowed budget) x y is (subst (λ (s : State). Executes s (allowed budget) y) same so)
+      one_execution state (asked_mode options.checked) (allowed options.budget) x y is (subst (λ (s : State). ExecutesAs s options y) same so)
 
-  one_refused_execution : (budget : Budget) (a b : FileRefusal) → ExecutionRefused files root budget a → ExecutionRefused files root budget b → a ≡ b
-  one_refused_execution budget a b (state, place, cause, sound, is, e) (other, at, why, also, so, f) =
-      let one : execution.Refused place cause ≡ execution.Refused at why = one_executed budget state other (execution.Refused place cause) (execution.Refused at why) sound also is so in
+  one_refused_execution : (options : Options) (a b : FileRefusal) → ExecutionRefused files root options a → ExecutionRefused files root options b → a ≡ b
+  one_refused_execution options a b (state, place, cause, sound, is, e) (other, at, why, also, so, f) =
+      let one : execution.Refused place cause ≡ execution.Refused at why = one_executed options state other (execution.Refused place cause) (execution.Refused at why) sound also is so in
       let same : state ≡ other = one_end (NameGives (Some files)) root (one_name files) state other sound.loads.0 also.loads.0 in
       e ∙ refused_same state other place at cause why same one ∙ sym f
 
   -- ---- reasons of both kinds
 
-  abbrev pub AnyRefused : Budget → FileRefusal → Type 0
-  AnyRefused budget against = ProgramRefused files root against ⊎ ExecutionRefused files root budget against
+  abbrev pub AnyRefused : Options → FileRefusal → Type 0
+  AnyRefused options against = ProgramRefused files root against ⊎ ExecutionRefused files root options against
 
-  pub one_any : (budget : Budget) (a b : FileRefusal) → AnyRefused budget a → AnyRefused budget b → a ≡ b
-  one_any budget a b (inl x) (inl y) = one_program_refusal a b x y
-  one_any budget a b (inl x) (inr (state, place, cause, sound, is, e)) = absurd (loaded_unrefused state a sound x)
-  one_any budget a b (inr (state, place, cause, sound, is, e)) (inl y) = absurd (loaded_unrefused state b sound y)
-  one_any budget a b (inr x) (inr y) = one_refused_execution budget a b x y
+  pub one_any : (options : Options) (a b : FileRefusal) → AnyRefused options a → AnyRefused options b → a ≡ b
+  one_any options a b (inl x) (inl y) = one_program_refusal a b x y
+  one_any options a b (inl x) (inr (state, place, cause, sound, is, e)) = absurd (loaded_unrefused state a sound x)
+  one_any options a b (inr (state, place, cause, sound, is, e)) (inl y) = absurd (loaded_unrefused state b sound y)
+  one_any options a b (inr x) (inr y) = one_refused_execution options a b x y
 
-  pub one_finish : (budget : Budget) (a b : Written) → Finishes files root budget a → Finishes files root budget b → a ≡ b
-  one_finish budget a b (state, sound, is) (other, also, so) =
-      let one : execution.Ran a ≡ execution.Ran b = one_executed budget state other (execution.Ran a) (execution.Ran b) sound also is so in cc
+  pub one_finish : (options : Options) (a b : Written) → Finishes files root options a → Finishes files root options b → a ≡ b
+  one_finish options a b (state, sound, is) (other, also, so) =
+      let one : execution.Ran a ≡ execution.Ran b = one_executed options state other (execution.Ran a) (execution.Ran b) sound also is so in cc
 
-  pub finish_unrefused : (budget : Budget) (against : FileRefusal) (made : Written) → AnyRefused budget against → Finishes files root budget made → ⊥
-  finish_unrefused budget against made (inl x) (state, sound, is) = loaded_unrefused state against sound x
-  finish_unrefused budget against made (inr (other, place, cause, also, so, e)) (state, sound, is) =
-      let one : execution.Refused place cause ≡ execution.Ran made = one_executed budget other state (execution.Refused place cause) (execution.Ran made) also sound so is in cc
+  pub finish_unrefused : (options : Options) (against : FileRefusal) (made : Written) → AnyRefused options against → Finishes files root options made → ⊥
+  finish_unrefused options against made (inl x) (state, sound, is) = loaded_unrefused state against sound x
+  finish_unrefused options against made (inr (other, place, cause, also, so, e)) (state, sound, is) =
+      let one : execution.Refused place cause ≡ execution.Ran made = one_executed options other state (execution.Refused place cause) (execution.Ran made) also sound so is in cc
 
   -- what has what isn't built is refused for no reason, and writes nothing
-  pub not_built_unrefused : (budget : Budget) (state : State) → IsSound files root state → Executes state (allowed budget) execution.NotBuilt → (against : FileRefusal) → AnyRefused budget against → ⊥
-  not_built_unrefused budget state sound is against (inl x) = loaded_unrefused state against sound x
-  not_built_unrefused budget state sound is against (inr (other, place, cause, also, so, e)) =
-      let one : execution.Refused place cause ≡ execution.NotBuilt = one_executed budget other state (execution.Refused place cause) execution.NotBuilt also sound so is in cc
+  pub not_built_unrefused : (options : Options) (state : State) → IsSound files root state → ExecutesAs state options execution.NotBuilt → (against : FileRefusal) → AnyRefused options against → ⊥
+  not_built_unrefused options state sound is against (inl x) = loaded_unrefused state against sound x
+  not_built_unrefused options state sound is against (inr (other, place, cause, also, so, e)) =
+      let one : execution.Refused place cause ≡ execution.NotBuilt = one_executed options other state (execution.Refused place cause) execution.NotBuilt also sound so is in cc
 
-  pub not_built_unwritten : (budget : Budget) (state : State) → IsSound files root state → Executes state (allowed budget) execution.NotBuilt → (made : Written) → Finishes files root budget made → ⊥
-  not_built_unwritten budget state sound is made (other, also, so) =
-      let one : execution.Ran made ≡ execution.NotBuilt = one_executed budget other state (execution.Ran made) execution.NotBuilt also sound so is in cc
+  pub not_built_unwritten : (options : Options) (state : State) → IsSound files root state → ExecutesAs state options execution.NotBuilt → (made : Written) → Finishes files root options made → ⊥
+  not_built_unwritten options state sound is made (other, also, so) =
+      let one : execution.Ran made ≡ execution.NotBuilt = one_executed options other state (execution.Ran made) execution.NotBuilt also sound so is in cc
 
-  pub finished_unrefused : (budget : Budget) (state : State) (made : Written) → IsSound files root state → Executes state (allowed budget) (execution.Ran made) → (against : FileRefusal) → AnyRefused budget against → ⊥
-  finished_unrefused budget state made sound is against any = finish_unrefused budget against made any (state, sound, is)
+  pub finished_unrefused : (options : Options) (state : State) (made : Written) → IsSound files root state → ExecutesAs state options (execution.Ran made) → (against : FileRefusal) → AnyRefused options against → ⊥
+  finished_unrefused options state made sound is against any = finish_unrefused options against made any (state, sound, is)
 
 -- ---- what loading answers with the root's text at hand
 

@@ -7,7 +7,7 @@ use Rattle.dart_tool.specs.declared.run.Ending.{Ending}
 use Rattle.dart_tool.specs.declared.run.Ending.TheVariants.{Returned, IntegerLimit}
 use Rattle.dart_tool.specs.declared.status.Refusal.{Refusal}
 use Rattle.dart_tool.specs.declared.status.Status.{Status}
-use Rattle.dart_tool.specs.declared.status.Status.TheVariants.{Done, Usage, Refused, Uncaught, Limit, ReadFault, WriteFault, Memory}
+use Rattle.dart_tool.specs.declared.status.Status.TheVariants.{Done, Usage, Refused, Uncaught, CheckFailed, Limit, ReadFault, WriteFault, Memory}
 use Rattle.dart_tool.specs.Outcome.{refused, transcript_of, ended_outcome, end_status, finish_status, is_cut_short}
 use Rattle.dart_tool.specs.Tool.{Delivers}
 use Rattle.turn_text.specs.declared.finish.Finish.{Finish}
@@ -26,6 +26,7 @@ transcript_status IntegerLimit bytes out is e =
 written_status : (finish : Finish) → finish_status finish ≡ Usage → ⊥
 written_status f.Done e = cc
 written_status f.Uncaught e = cc
+written_status f.CheckFailed e = cc
 written_status f.Limit e = cc
 
 pub ended_status : (ended : Ended) (out : Outcome) → out ≡ ended_outcome ended → out.status ≡ Usage → ⊥
@@ -35,6 +36,7 @@ ended_status (Whole made) out is e = written_status made.finish (sym (ap (λ (o 
 written_whole : (finish : Finish) → is_cut_short (finish_status finish) ≡ false
 written_whole f.Done = refl
 written_whole f.Uncaught = refl
+written_whole f.CheckFailed = refl
 written_whole f.Limit = refl
 
 transcript_whole : (ending : Ending) → is_cut_short (end_status ending) ≡ false
@@ -52,6 +54,7 @@ delivered_status due Usage before after none h e = none (sym h.0)
 delivered_status due Done before after none h e = cc
 delivered_status due Refused before after none h e = cc
 delivered_status due Uncaught before after none h e = cc
+delivered_status due CheckFailed before after none h e = cc
 delivered_status due Limit before after none h e = cc
 delivered_status due ReadFault before after none h e = cc
 delivered_status due WriteFault before after none h e = cc

@@ -7,7 +7,7 @@ use Rattle.dart_base.specs.Feature.{feature_text}
 use Rattle.dart_edge.specs.Files.{Files, file_of}
 use Rattle.dart_front.specs.Texts.{ErasesTo}
 use Rattle.dart_run.specs.declared.written.Written.{Written}
-use Rattle.dart_words.specs.declared.budget.Budget.{Budget}
+use Rattle.dart_words.specs.declared.options.Options.{Options}
 use Rattle.dart_words.specs.declared.words.Verb.{Verb}
 use Rattle.dart_words.specs.declared.words.Verb.TheVariants as v
 use Rattle.dart_words.specs.Words.{Command, reading}
@@ -20,7 +20,7 @@ use Rattle.dart_tool.specs.declared.run.Ended.TheVariants.{Printed, Whole}
 use Rattle.dart_tool.specs.declared.run.Ending.{Ending}
 use Rattle.dart_tool.specs.declared.run.Ending.TheVariants.{Returned, IntegerLimit}
 use Rattle.dart_tool.specs.declared.status.Status.{Status}
-use Rattle.dart_tool.specs.declared.status.Status.TheVariants.{Done, Usage, Refused, Uncaught, Limit, ReadFault, WriteFault, Memory}
+use Rattle.dart_tool.specs.declared.status.Status.TheVariants.{Done, Usage, Refused, Uncaught, CheckFailed, Limit, ReadFault, WriteFault, Memory}
 use Rattle.dart_tool.specs.declared.status.Refusal.{Refusal}
 use Rattle.dart_tool.specs.declared.status.Refusal.TheVariants.{NotFound, NotUtf8, BadToken, LeftOut, IntegerTooLarge, Syntax, TooDeep, BadDirective, ProgramTooLarge, Duplicate, NoMain, CyclicClasses, BadSuper, BadMixin, TypesTooLarge, NotConstant, BadLabel, BadConstructor, BadSwitch, BadWord, TooManyParameters, NotBuilt}
 use Rattle.dart_tool.specs.Language.{IsNoUnitFor, RefusedFor, Runs, Writes}
@@ -101,6 +101,7 @@ transcript run = transcript_of (printed_bytes run) run.ending
 abbrev pub finish_status : Finish → Status
 finish_status f.Done = Done
 finish_status f.Uncaught = Uncaught
+finish_status f.CheckFailed = CheckFailed
 finish_status f.Limit = Limit
 
 -- what a program of the whole language writes, and how it finishes
@@ -112,16 +113,16 @@ abbrev pub ended_outcome : Ended → Outcome
 ended_outcome (Printed printed) = transcript_of printed.bytes printed.ending
 ended_outcome (Whole made) = written_outcome made
 
--- What `run` gives within a budget for a root that isn't there, or for one with this text: the refusal for the program's reason, or
+-- What `run` gives, as options ask, for a root that isn't there, or for one with this text: the refusal for the program's reason, or
 -- the transcript of its run, or what it writes, or, where it has none of these, NotBuilt.
-abbrev pub FileGives : List ℕ → Files → Budget → Option (List ℕ) → Outcome → Type 0
-FileGives name files budget None out = out ≡ refused NotFound name
-FileGives name files budget (Some text) out =
-    ((against : FileRefusal) × RefusedFor files name text budget against × (out ≡ refused against.why against.file)) ⊎
-    (((run : Run) × Runs text budget run × (out ≡ transcript run)) ⊎
-    (((made : Written) × Writes files name text budget made × (out ≡ written_outcome made)) ⊎
-    (((against : FileRefusal) → RefusedFor files name text budget against → ⊥) × ((run : Run) → Runs text budget run → ⊥) ×
-    ((made : Written) → Writes files name text budget made → ⊥) × (out ≡ refused NotBuilt name))))
+abbrev pub FileGives : List ℕ → Files → Options → Option (List ℕ) → Outcome → Type 0
+FileGives name files options None out = out ≡ refused NotFound name
+FileGives name files options (Some text) out =
+    ((against : FileRefusal) × RefusedFor files name text options against × (out ≡ refused against.why against.file)) ⊎
+    (((run : Run) × Runs text options run × (out ≡ transcript run)) ⊎
+    (((made : Written) × Writes files name text options made × (out ≡ written_outcome made)) ⊎
+    (((against : FileRefusal) → RefusedFor files name text options against → ⊥) × ((run : Run) → Runs text options run → ⊥) ×
+    ((made : Written) → Writes files name text options made → ⊥) × (out ≡ refused NotBuilt name))))
 
 -- the text of a unit without annotations
 abbrev pub erased_outcome : List ℕ → Outcome
@@ -137,7 +138,7 @@ EraseGives name (Some text) out =
 
 -- What a command gives for its file, where these are the files.
 abbrev pub VerbGives : Verb → List ℕ → Files → Option (List ℕ) → Outcome → Type 0
-VerbGives (v.Run budget) name files content out = FileGives name files budget content out
+VerbGives (v.Run options) name files content out = FileGives name files options content out
 VerbGives v.Erase name files content out = EraseGives name content out
 
 -- What a command gives.

@@ -4,10 +4,9 @@ use Rattle.dart_base.specs.declared.place.Place.{Place}
 use Rattle.dart_edge.specs.Files.{Files, file_of}
 use Rattle.dart_execute.specs.declared.cause.Cause.{Cause}
 use Rattle.dart_execute.specs.declared.execution.Execution.TheVariants as execution
-use Rattle.dart_execute.specs.Execution.{Executes, allowed}
+use Rattle.dart_execute.specs.Execution.{ExecutesAs}
 use Rattle.dart_run.specs.declared.written.Written.{Written}
-use Rattle.dart_words.specs.declared.budget.Budget.{Budget}
-use Rattle.evaluation.specs.Turn as e
+use Rattle.dart_words.specs.declared.options.Options.{Options}
 use Rattle.scope_files.specs.Files.{NameGives}
 use Rattle.scope_load.specs.declared.reason.Reason.{Reason}
 use Rattle.scope_load.specs.declared.reason.LoadFault.{LoadFault}
@@ -78,25 +77,25 @@ abbrev pub execution_refusal : State → Place → Cause → FileRefusal
 execution_refusal state place cause = record { file = unit_file (unit_at state place); why = cause_refusal place cause }
 
 -- What an answer says of a program whose units are loaded: it ran and wrote this, or has what isn't built, or is refused for this.
-abbrev pub EndsAs : State → e.Budget → Result (Option Ended) RunStop → Type 0
-EndsAs state budget (Ok (Some (Whole made))) = Executes state budget (execution.Ran made)
-EndsAs state budget (Ok (Some (Printed printed))) = ⊥
-EndsAs state budget (Ok None) = Executes state budget execution.NotBuilt
-EndsAs state budget (Err (Refused against)) = (place : Place) × (cause : Cause) ×
-    Executes state budget (execution.Refused place cause) × (against ≡ execution_refusal state place cause)
-EndsAs state budget (Err Failed) = ⊥
-EndsAs state budget (Err Memory) = Unit {0}
+abbrev pub EndsAs : State → Options → Result (Option Ended) RunStop → Type 0
+EndsAs state options (Ok (Some (Whole made))) = ExecutesAs state options (execution.Ran made)
+EndsAs state options (Ok (Some (Printed printed))) = ⊥
+EndsAs state options (Ok None) = ExecutesAs state options execution.NotBuilt
+EndsAs state options (Err (Refused against)) = (place : Place) × (cause : Cause) ×
+    ExecutesAs state options (execution.Refused place cause) × (against ≡ execution_refusal state place cause)
+EndsAs state options (Err Failed) = ⊥
+EndsAs state options (Err Memory) = Unit {0}
 
--- The units are loaded with nothing against them, and this is found within the budget.
-abbrev pub ExecutionRefused : Files → List ℕ → Budget → FileRefusal → Type 0
-ExecutionRefused files root budget against =
+-- The units are loaded with nothing against them, and this is found as the options ask.
+abbrev pub ExecutionRefused : Files → List ℕ → Options → FileRefusal → Type 0
+ExecutionRefused files root options against =
     (state : State) × (place : Place) × (cause : Cause) × IsSound files root state ×
-    Executes state (allowed budget) (execution.Refused place cause) × (against ≡ execution_refusal state place cause)
+    ExecutesAs state options (execution.Refused place cause) × (against ≡ execution_refusal state place cause)
 
--- The units are loaded with nothing against them, and the program runs within the budget and writes this.
-abbrev pub Finishes : Files → List ℕ → Budget → Written → Type 0
-Finishes files root budget made =
-    (state : State) × IsSound files root state × Executes state (allowed budget) (execution.Ran made)
+-- The units are loaded with nothing against them, and the program runs as the options ask and writes this.
+abbrev pub Finishes : Files → List ℕ → Options → Written → Type 0
+Finishes files root options made =
+    (state : State) × IsSound files root state × ExecutesAs state options (execution.Ran made)
 
 -- a file could not be read
 abbrev pub stop_failed : RunStop → Bool

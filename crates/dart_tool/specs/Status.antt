@@ -14,7 +14,7 @@ use Rattle.scope_load.specs.declared.reason.Reason.TheVariants as r
 use Rattle.scope_load.specs.declared.units.TextReason.{TextReason}
 use Rattle.scope_load.specs.declared.units.TextReason.TheVariants as x
 use Rattle.dart_tool.specs.declared.status.Status.{Status}
-use Rattle.dart_tool.specs.declared.status.Status.TheVariants.{Done, Usage, Refused, Uncaught, Limit, ReadFault, WriteFault, Memory}
+use Rattle.dart_tool.specs.declared.status.Status.TheVariants.{Done, Usage, Refused, Uncaught, CheckFailed, Limit, ReadFault, WriteFault, Memory}
 use Rattle.dart_tool.specs.declared.status.Refusal.{Refusal}
 use Rattle.dart_tool.specs.declared.status.Refusal.TheVariants.{NotFound, NotUtf8, BadToken, LeftOut, IntegerTooLarge, Syntax, TooDeep, TooLarge, BadDirective, ProgramTooLarge, Duplicate, NoMain, CyclicClasses, BadSuper, BadMixin, TypesTooLarge, NotConstant, BadLabel, BadConstructor, BadSwitch, BadWord, TooManyParameters, NotBuilt}
 
@@ -24,6 +24,7 @@ status_number Done = 0
 status_number Usage = 2
 status_number Refused = 3
 status_number Uncaught = 4
+status_number CheckFailed = 5
 status_number Limit = 6
 status_number ReadFault = 7
 status_number WriteFault = 8

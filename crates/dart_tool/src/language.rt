@@ -3,7 +3,6 @@
 ghost use Rattle.std.specs.Prelude.{◌≡◌, ◌↔◌, ◌<◌, ◌^◌, IfOk, IfErr, IsTrue, false};
 ghost use Rattle.dart_edge.specs.Fault.{Counts};
 ghost use Rattle.dart_front.specs.Texts.{ErasesTo};
-ghost use Rattle.dart_execute.specs.Execution.{allowed};
 ghost use Rattle.scope_load.specs.State.{state_of};
 ghost use Rattle.dart_tool.specs.Language.{GivesEnd, IsNoUnitFor, IsWhole, RefusedFor, Stops, stop_for, usual};
 ghost use Rattle.dart_tool.specs.Program.{EndsAs, Judges, run_failed};
@@ -20,7 +19,7 @@ use dart_edge::source::Sources;
 use dart_execute::execution::{Execution, execute};
 use dart_front::erased::erased_text;
 use dart_front::fault::TextFault;
-use dart_words::budget::Budget;
+use dart_words::options::Options;
 use scope_load::loaded::Loaded;
 use std::alloc::Global;
 
@@ -53,12 +52,16 @@ impl From<TextFault> for Stop {
 }
 
 // What becomes of a program whose units are loaded, with nothing against them.
-fn execute_loaded(alloc: Global, loaded: &Loaded, budget: Budget) -> Result<Option<Ended>, RunStop>
-    requires units { budget.units < 2 ^ 32 }
-    ensures answer { EndsAs (state_of loaded.now) (allowed budget) result }
+fn execute_loaded(
+    alloc: Global,
+    loaded: &Loaded,
+    options: Options,
+) -> Result<Option<Ended>, RunStop>
+    requires units { options.budget.units < 2 ^ 32 }
+    ensures answer { EndsAs (state_of loaded.now) options result }
     ensures failed { run_failed result ≡ false }
 {
-    match execute(alloc, loaded, budget) {
+    match execute(alloc, loaded, options) {
         Ok(Execution::Ran(made)) => Ok(Some(Ended::Whole(made))),
         Ok(Execution::NotBuilt) => Ok(None),
         Ok(Execution::Refused(place, cause)) => {
@@ -71,11 +74,12 @@ fn execute_loaded(alloc: Global, loaded: &Loaded, budget: Budget) -> Result<Opti
     }
 }
 
-// Whether it is the budget of a run whose words say nothing of it.
-fn is_usual(budget: Budget) -> bool
-    ensures { IsTrue result ↔ (budget ≡ usual) }
+// Whether they are those of a run whose words have none: production, within the usual budget.
+fn is_usual(options: Options) -> bool
+    ensures { IsTrue result ↔ (options ≡ usual) }
 {
-    budget.steps == USUAL_STEPS && budget.units == USUAL_STORE_UNITS
+    let budget = options.budget;
+    !options.checked && budget.steps == USUAL_STEPS && budget.units == USUAL_STORE_UNITS
 }
 
 // Runs a program that isn't run as one of the subset.
@@ -83,46 +87,46 @@ fn run_whole<S: Sources>(
     alloc: Global,
     name: &str,
     text: &[u8],
-    budget: Budget,
+    options: Options,
     sources: &mut S,
 ) -> Result<Option<Ended>, RunStop>
-    requires units { budget.units < 2 ^ 32 }
-    requires other { IsWhole text.now budget }
-    ensures runs { IfOk result (GivesEnd (S.files sources.old) name.now text.now budget) }
-    ensures answer { Judges (λ files. RefusedFor files name.now text.now budget) (S.files sources.old) name.now text.now result }
+    requires units { options.budget.units < 2 ^ 32 }
+    requires other { IsWhole text.now options }
+    ensures runs { IfOk result (GivesEnd (S.files sources.old) name.now text.now options) }
+    ensures answer { Judges (λ files. RefusedFor files name.now text.now options) (S.files sources.old) name.now text.now result }
     ensures same { S.files sources.new ≡ S.files sources.old }
     ensures cause { Counts (run_failed result) (S.faults sources.old) (S.faults sources.new) }
 {
     match load_program(alloc, name, text, sources) {
-        Ok(loaded) => execute_loaded(alloc, &loaded, budget),
+        Ok(loaded) => execute_loaded(alloc, &loaded, options),
         Err(stop) => Err(stop),
     }
 }
 
-/// Runs the program whose root has this name and text, within the budget. None where it is refused for no reason, and yet has what
+/// Runs the program whose root has this name and text, as the options ask. None where it is refused for no reason, and yet has what
 /// isn't built.
 pub fn run_text<S: Sources>(
     alloc: Global,
     name: &str,
     text: &[u8],
-    budget: Budget,
+    options: Options,
     sources: &mut S,
 ) -> Result<Option<Ended>, RunStop>
-    requires units { budget.units < 2 ^ 32 }
-    ensures runs { IfOk result (GivesEnd (S.files sources.old) name.now text.now budget) }
-    ensures answer { Judges (λ files. RefusedFor files name.now text.now budget) (S.files sources.old) name.now text.now result }
+    requires units { options.budget.units < 2 ^ 32 }
+    ensures runs { IfOk result (GivesEnd (S.files sources.old) name.now text.now options) }
+    ensures answer { Judges (λ files. RefusedFor files name.now text.now options) (S.files sources.old) name.now text.now result }
     ensures same { S.files sources.new ≡ S.files sources.old }
     ensures cause { Counts (run_failed result) (S.faults sources.old) (S.faults sources.new) }
 {
-    if !is_usual(budget) {
-        return run_whole(alloc, name, text, budget, sources);
+    if !is_usual(options) {
+        return run_whole(alloc, name, text, options, sources);
     }
     match reading_of(alloc, text)? {
         Reading::Source(statements) => {
             Ok(Some(Ended::Printed(evaluate::run(alloc, &statements)?)))
         }
-        Reading::Unfit => run_whole(alloc, name, text, budget, sources),
-        Reading::Unspelled => run_whole(alloc, name, text, budget, sources),
+        Reading::Unfit => run_whole(alloc, name, text, options, sources),
+        Reading::Unspelled => run_whole(alloc, name, text, options, sources),
     }
 }
 

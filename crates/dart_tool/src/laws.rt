@@ -3,12 +3,12 @@ ghost use Rattle.std.specs.Prelude.{◌≡◌, ◌↔◌, ℕ, List, Some, map};
 ghost use Rattle.std.specs.String.{string_bytes};
 ghost use Rattle.dart_edge.specs.Files.{Files, file_of};
 ghost use Rattle.dart_edge.specs.Memory.{safe_files, safe_written};
-ghost use Rattle.dart_words.specs.declared.budget.Budget.{Budget};
+ghost use Rattle.dart_words.specs.declared.options.Options.{Options};
 ghost use Rattle.dart_words.specs.declared.words.Verb.TheVariants as v;
 ghost use Rattle.dart_words.specs.Words.{reading};
 ghost use Rattle.dart_tool.specs.declared.outcome.Outcome.{Outcome};
 ghost use Rattle.dart_tool.specs.Language.{DifferInAnnotationsAlone, Runs, usual};
-ghost use Rattle.dart_tool.specs.Laws.{AnswersSafely};
+ghost use Rattle.dart_tool.specs.Laws.{AnswersSafely, CheckedOutcomesFollow};
 ghost use Rattle.dart_tool.specs.Outcome.{FileGives, IsOutcome};
 ghost use Rattle.dart_tool.specs.Run.{Run};
 
@@ -34,10 +34,10 @@ pub fn never_without_outcome()
 {}
 
 /// Type annotations of variables are never read: texts that differ in these alone, of which one is the source of a program of the
-/// subset, have the same run, and within the usual budget the same outcome.
+/// subset, have the same run, and in production within the usual budget the same outcome.
 pub fn annotations_are_not_read()
-    ensures run { (text other : List ℕ) (budget : Budget) (run : Run) → DifferInAnnotationsAlone text other →
-        Runs text budget run ↔ Runs other budget run }
+    ensures run { (text other : List ℕ) (options : Options) (run : Run) → DifferInAnnotationsAlone text other →
+        Runs text options run ↔ Runs other options run }
     ensures file { (name : List ℕ) (files others : Files) (text other : List ℕ) (out : Outcome) →
         DifferInAnnotationsAlone text other →
         FileGives name files usual (Some text) out ↔ FileGives name others usual (Some other) out }
@@ -47,6 +47,12 @@ pub fn annotations_are_not_read()
         file_of files name ≡ Some text → file_of others name ≡ Some other →
         DifferInAnnotationsAlone text other →
         IsOutcome words files out ↔ IsOutcome words others out }
+{}
+
+/// What `run --checked` writes of a file up to its first report is what `run` writes first within the same budget; where nothing is
+/// reported the outcomes are the same. It says nothing of programs that the model of the subset runs.
+pub fn checked_outcomes_follow()
+    ensures { CheckedOutcomesFollow }
 {}
 
 /// The tool over files and output in memory, which never fail: it answers the outcome, or Memory.

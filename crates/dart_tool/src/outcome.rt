@@ -17,7 +17,7 @@ use dart_base::bytes::Bytes;
 use dart_base::place::Place;
 use dart_edge::source::{SourceFault, Sources};
 use dart_run::written::Written;
-use dart_words::budget::Budget;
+use dart_words::options::Options;
 use dart_words::words::Verb;
 use std::alloc::{AllocError, Global};
 use turn_text::finish::Finish;
@@ -149,6 +149,7 @@ fn finish_status(finish: Finish) -> Status
     match finish {
         Finish::Done => Status::Done,
         Finish::Uncaught => Status::Uncaught,
+        Finish::CheckFailed => Status::CheckFailed,
         Finish::Limit => Status::Limit,
     }
 }
@@ -173,23 +174,23 @@ fn ended_outcome(ended: Ended) -> Result<Outcome, AllocError>
     }
 }
 
-// What `run` gives within the budget for the root with this name and text.
+// What `run` gives for the root with this name and text, as the options ask.
 fn run_outcome<S: Sources>(
     alloc: Global,
-    budget: Budget,
+    options: Options,
     name: &str,
     text: &[u8],
     sources: &mut S,
 ) -> Result<Outcome, SourceFault>
-    requires units { budget.units < 2 ^ 32 }
+    requires units { options.budget.units < 2 ^ 32 }
     ensures gives { IfOk result (λ out. WhereHas (S.files sources.old) name.now text.now
-        (λ files. FileGives name.now files budget (Some text.now) out)) }
+        (λ files. FileGives name.now files options (Some text.now) out)) }
     ensures ended { IfOk result (λ out. is_cut_short out.status ≡ false) }
     ensures usage { IfOk result (λ out. out.status ≡ Status.Usage → ⊥) }
     ensures same { S.files sources.new ≡ S.files sources.old }
     ensures cause { Counts (read_failed result) (S.faults sources.old) (S.faults sources.new) }
 {
-    match run_text(alloc, name, text, budget, sources) {
+    match run_text(alloc, name, text, options, sources) {
         Ok(Some(ended)) => Ok(ended_outcome(ended)?),
         Ok(None) => Ok(refused(alloc, Refusal::NotBuilt, name.as_bytes())?),
         Err(RunStop::Refused(against)) => {
@@ -237,7 +238,7 @@ pub fn file_outcome<S: Sources>(
         return Ok(refused(alloc, Refusal::NotFound, name.as_bytes())?);
     };
     match verb {
-        Verb::Run(budget) => run_outcome(alloc, budget, name, text.as_slice(), sources),
+        Verb::Run(options) => run_outcome(alloc, options, name, text.as_slice(), sources),
         Verb::Erase => Ok(erase_outcome(alloc, name.as_bytes(), text.as_slice())?),
     }
 }

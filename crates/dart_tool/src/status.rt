@@ -23,6 +23,8 @@ pub enum Status {
     Refused,
     /// An exception left the program.
     Uncaught,
+    /// The program returned, or an exception left it, after a check had failed.
+    CheckFailed,
     /// The program came to a limit of the language.
     Limit,
     /// A file could not be read.
@@ -43,6 +45,7 @@ impl Status {
             Status::Usage => 2,
             Status::Refused => 3,
             Status::Uncaught => 4,
+            Status::CheckFailed => 5,
             Status::Limit => 6,
             Status::ReadFault => 7,
             Status::WriteFault => 8,

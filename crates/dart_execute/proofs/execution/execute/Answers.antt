@@ -9,7 +9,7 @@ use Rattle.scope_load.specs.State.{state_of}
 use Rattle.scope_program.specs.Made.{AreScopesOf}
 use Rattle.scope_program.specs.Program.{Scoping}
 use Rattle.translation.specs.Program as p
-use Rattle.dart_execute.specs.Execution.{Executes, Follows, allowed}
+use Rattle.dart_execute.specs.Execution.{ExecutesAs, Follows, allowed, asked_mode}
 use Rattle.dart_execute.specs.declared.cause.Cause.TheVariants as cause
 use Rattle.dart_execute.specs.declared.execution.Execution.TheVariants.{Refused}
 use Rattle.dart_execute.proofs.execution.execute.Goals as goal
@@ -17,13 +17,15 @@ use Rattle.dart_execute.proofs.execution.execute.Goals as goal
 pub returns-in-Ok : goal.returns-in-Ok
 returns-in-Ok c =
     let state = state_of c.args.loaded.now in
-    let budget = allowed c.args.budget in
+    let options = c.args.options in
+    let mode = asked_mode options.checked in
+    let budget = allowed options.budget in
     let made = c.in_ok-scopes.scopes in
     let k = c.in_ok-numbered-in-Ok.numbered in
     let (s, is, h) = c.in_ok-scopes.ensures in
     IfOk-weaker c.translate.result
-    (λ out. (s : Scoping) → AreScopesOf s made → (main : ℕ) × (s.main ≡ Some main) × Follows state s.texts k budget (p.core (given_of s state k main)) out)
-    (Executes state budget)
+    (λ out. (s : Scoping) → AreScopesOf s made → (main : ℕ) × (s.main ≡ Some main) × Follows state s.texts k mode budget (p.core (given_of s state k main)) out)
+    (ExecutesAs state options)
     (λ out known.
     let (main, starts, follows) = known s h in (
       s,

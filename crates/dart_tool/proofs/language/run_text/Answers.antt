@@ -13,8 +13,8 @@ pub returns-in_ok-run-in-Source-clause-answer : goal.returns-in_ok-run-in-Source
 returns-in_ok-run-in-Source-clause-answer g c =
     let text = c.args.text.now in
     let source : IsReading text (Source c.in-Source.statements) = subst (λ (x : Reading). IsReading text x) c.in-Source.is c.in_ok-statements.ensures in
-    let usually : c.args.budget ≡ usual = search (rules, c.is_usual.ensures, c.if-not-is_usual.false) in
-    told_source (g.S.Sources.files c.args.sources.now) c.args.name.now text c.args.budget c.in-Source.statements.items source usually
+    let usually : c.args.options ≡ usual = search (rules, c.is_usual.ensures, c.if-not-is_usual.false) in
+    told_source (g.S.Sources.files c.args.sources.now) c.args.name.now text c.args.options c.in-Source.statements.items source usually
 
 pub run_whole-requires-in-Unfit-clause-other : goal.run_whole-requires-in-Unfit-clause-other
 run_whole-requires-in-Unfit-clause-other g c =

@@ -3,7 +3,7 @@ use Rattle.dart_tool.proofs.outcome.file_outcome.Goals as goal
 
 pub returns-in-Run-clause-gives : goal.returns-in-Run-clause-gives
 returns-in-Run-clause-gives g c =
-    root_given (g.S.Sources.files c.args.sources.now) c.args.verb c.in-Run.budget c.args.name.now c.args.content c.in-Some.text c.as_slice.result.now c.run_outcome.result c.in-Run.is c.in-Some.is c.as_slice.ensures c.run_outcome.ensures.gives
+    root_given (g.S.Sources.files c.args.sources.now) c.args.verb c.in-Run.options c.args.name.now c.args.content c.in-Some.text c.as_slice.result.now c.run_outcome.result c.in-Run.is c.in-Some.is c.as_slice.ensures c.run_outcome.ensures.gives
 
 pub returns-clause-gives : goal.returns-clause-gives
 returns-clause-gives g c =

@@ -14,8 +14,8 @@ returns-in_ok-ended_outcome-in-Ok-Some-clause-gives g c =
     let told : Option Files = g.S.Sources.files c.args.sources.now in
     let name = c.args.name.now in
     let text = c.args.text.now in
-    let gives : GivesEnd told name text c.args.budget (Some c.in-Ok-Some.ended) = subst (λ (o : Option Ended). GivesEnd told name text c.args.budget o) c.in-Ok-Some.field-0-is c.in-Ok-Some.ensures.runs in
-    ended_given told name text c.args.budget c.in-Ok-Some.ended c.in_ok-ended_outcome-in-Ok-Some.field-0 gives c.in_ok-ended_outcome-in-Ok-Some.ensures
+    let gives : GivesEnd told name text c.args.options (Some c.in-Ok-Some.ended) = subst (λ (o : Option Ended). GivesEnd told name text c.args.options o) c.in-Ok-Some.field-0-is c.in-Ok-Some.ensures.runs in
+    ended_given told name text c.args.options c.in-Ok-Some.ended c.in_ok-ended_outcome-in-Ok-Some.field-0 gives c.in_ok-ended_outcome-in-Ok-Some.ensures
 
 pub returns-in_ok-refused-in-Ok-None-clause-gives : goal.returns-in_ok-refused-in-Ok-None-clause-gives
 returns-in_ok-refused-in-Ok-None-clause-gives g c =
@@ -23,17 +23,17 @@ returns-in_ok-refused-in-Ok-None-clause-gives g c =
     let name = c.args.name.now in
     let text = c.args.text.now in
     let none : c.in-Ok-None.field-0 ≡ None = c.in-Ok-None.field-0-is in
-    let gives : GivesEnd told name text c.args.budget None = subst (λ (o : Option Ended). GivesEnd told name text c.args.budget o) none c.in-Ok-None.ensures.runs in
-    not_built told name text c.args.budget c.in_ok-refused-in-Ok-None.field-0 c.in-Ok-None.ensures.answer gives (rw c.as_bytes.ensures.value at c.in_ok-refused-in-Ok-None.ensures)
+    let gives : GivesEnd told name text c.args.options None = subst (λ (o : Option Ended). GivesEnd told name text c.args.options o) none c.in-Ok-None.ensures.runs in
+    not_built told name text c.args.options c.in_ok-refused-in-Ok-None.field-0 c.in-Ok-None.ensures.answer gives (rw c.as_bytes.ensures.value at c.in_ok-refused-in-Ok-None.ensures)
 
 pub returns-in_ok-refused-in-Err-Refused-clause-gives : goal.returns-in_ok-refused-in-Err-Refused-clause-gives
 returns-in_ok-refused-in-Err-Refused-clause-gives g c =
     let told : Option Files = g.S.Sources.files c.args.sources.now in
     let name = c.args.name.now in
     let text = c.args.text.now in
-    let refusal : WhereHas told name text (λ files. RefusedFor files name text c.args.budget c.in-Err-Refused.against) =
-    subst (λ (stop : RunStop). Judges {T = Option Ended} (λ files. RefusedFor files name text c.args.budget) told name text (Err stop)) c.in-Err-Refused.field-0-is c.in-Err-Refused.ensures.answer in
-    refusal_given told name text c.args.budget c.in-Err-Refused.against c.in_ok-refused-in-Err-Refused.field-0 refusal (rw c.as_slice.ensures at c.in_ok-refused-in-Err-Refused.ensures)
+    let refusal : WhereHas told name text (λ files. RefusedFor files name text c.args.options c.in-Err-Refused.against) =
+    subst (λ (stop : RunStop). Judges {T = Option Ended} (λ files. RefusedFor files name text c.args.options) told name text (Err stop)) c.in-Err-Refused.field-0-is c.in-Err-Refused.ensures.answer in
+    refusal_given told name text c.args.options c.in-Err-Refused.against c.in_ok-refused-in-Err-Refused.field-0 refusal (rw c.as_slice.ensures at c.in_ok-refused-in-Err-Refused.ensures)
 
 pub returns-in_ok-ended_outcome-in-Ok-Some-clause-usage : goal.returns-in_ok-ended_outcome-in-Ok-Some-clause-usage
 returns-in_ok-ended_outcome-in-Ok-Some-clause-usage g c = ended_status c.in-Ok-Some.ended c.in_ok-ended_outcome-in-Ok-Some.field-0 c.in_ok-ended_outcome-in-Ok-Some.ensures
