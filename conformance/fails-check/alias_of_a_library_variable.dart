@@ -1,0 +1,8 @@
+typedef int F({int a});
+
+F f = ({int a}) => 1;
+
+main() {
+  print(f(a: 2));
+  f = ({int b}) => 1;
+}

@@ -1,0 +1,5 @@
+main() {
+  int x = 1;
+  print(x);
+  x = 'a';
+}

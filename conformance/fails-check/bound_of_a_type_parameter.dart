@@ -1,0 +1,6 @@
+class P<T extends num> {}
+
+main() {
+  new P<String>();
+  print('p');
+}

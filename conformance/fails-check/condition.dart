@@ -1,0 +1,3 @@
+main() {
+  if (1) print('t'); else print('f');
+}

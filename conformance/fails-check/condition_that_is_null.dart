@@ -1,0 +1,3 @@
+main() {
+  if (null) print('t'); else print('f');
+}

@@ -1,0 +1,4 @@
+main() {
+  var l = <int>[1, 'a'];
+  print(l.length);
+}

@@ -1,0 +1,4 @@
+main() {
+  int x = 'a';
+  print('b');
+}

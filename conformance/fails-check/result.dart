@@ -1,0 +1,7 @@
+int text(n) {
+  return '$n';
+}
+
+main() {
+  text(3);
+}

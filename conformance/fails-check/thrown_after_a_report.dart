@@ -1,0 +1,7 @@
+main() {
+  try {
+    int x = 'a';
+  } catch (e) {
+    throw 'gone';
+  }
+}

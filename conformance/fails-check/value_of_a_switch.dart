@@ -1,0 +1,6 @@
+main() {
+  switch ('x') {
+    case 1:
+      print('a');
+  }
+}

@@ -1,0 +1,6 @@
+main() {
+  try {
+    int x = 'a';
+  } catch (e) {}
+  for (;;) {}
+}
