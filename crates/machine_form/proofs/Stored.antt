@@ -5,7 +5,7 @@ use Rattle.dart_ir.specs.declared.number.Ref.{Ref}
 use Rattle.dart_ir.specs.declared.value.Value.{Value}
 use Rattle.dart_ir.specs.declared.value.Value.TheVariants.{At}
 use Rattle.dart_store.specs.Heap.{with_field_at}
-use Rattle.evaluation.specs.State.{answer, Outcome, ends}
+use Rattle.evaluation.specs.State.{answer, ends}
 use Rattle.evaluation.specs.Invocation.{set_from, set}
 use Rattle.evaluation.specs.Values.{class_of}
 use Rattle.evaluation.specs.Variables as vars

@@ -1,5 +1,5 @@
 -- The bodies that wait for others, the last of which is the caller of the body at work.
-use Rattle.std.proofs.Common.{◌≡◌, ℕ, ◌-◌, List, [], ◌∷◌, ◌++◌, length, refl, ap, ◌∙◌, arith, length-append}
+use Rattle.std.proofs.Common.{◌≡◌, List, [], ◌∷◌, ◌++◌, length, refl, ap, ◌∙◌, arith}
 use Rattle.std.specs.Prelude.{slice_get}
 use Rattle.machine_frame.specs.declared.run.Body.{Body}
 use Rattle.machine_frame.specs.Frames.{body_or_none, no_body, last_body, bodies_under}

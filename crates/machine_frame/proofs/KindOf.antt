@@ -1,5 +1,5 @@
 -- What the kind of an object says of it.
-use Rattle.std.proofs.Common.{◌≡◌, Option, Some, None, refl, true, false}
+use Rattle.std.proofs.Common.{◌≡◌, Option, Some, None, refl}
 use Rattle.dart_ir.specs.Object.{HeapObject, instance, list, text, closure, bound, type_value, send_port, receive_port, cell}
 use Rattle.dart_store.specs.Heap.{kind_of, receiver_of, length_of}
 use Rattle.evaluation.specs.State.{Setting}

@@ -4,7 +4,6 @@ use Rattle.std.specs.List.{list_any}
 use Rattle.dart_base.specs.declared.place.Place.{Place}
 use Rattle.dart_ir.specs.declared.value.Value.{Value}
 use Rattle.dart_ir.specs.declared.value.Value.TheVariants.{Null}
-use Rattle.core_program.specs.declared.form.Way.{Way}
 use Rattle.core_program.specs.declared.form.Way.TheVariants as way
 use Rattle.core_program.specs.Core.{Core, Form}
 use Rattle.core_program.specs.Core as c

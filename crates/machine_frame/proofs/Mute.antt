@@ -1,5 +1,5 @@
 -- The events before a frame make no difference to the rest.
-use Rattle.std.proofs.Common.{◌≡◌, inl, inr, ℕ, ◌+◌, nat_le, List, [], ◌∷◌, ◌++◌, refl, sym, ap, ◌∙◌, suc, map, take, drop, reverse, Bool, true, false, Option, Some, None}
+use Rattle.std.proofs.Common.{◌≡◌, inl, inr, ℕ, ◌+◌, nat_le, List, [], ◌∷◌, ◌++◌, refl, sym, ap, ◌∙◌, map, drop, reverse, Bool, true, false, None}
 use Rattle.dart_base.specs.declared.place.Place.{Place}
 use Rattle.dart_ir.specs.declared.value.Value.{Value}
 use Rattle.dart_ir.specs.declared.value.Value.TheVariants.{Null, Bool as Truth}
@@ -13,14 +13,11 @@ use Rattle.core_program.specs.Core as c
 use Rattle.core_program.specs.View as v
 use Rattle.core_program.specs.Program.{Parameter}
 use Rattle.core_program.specs.declared.form.Case.{Case}
-use Rattle.core_program.specs.declared.form.Core.{Core}
-use Rattle.core_program.specs.declared.form.Handler.{Handler}
 use Rattle.core_program.specs.declared.form.Form.TheViews.{out-Attempt}
-use Rattle.evaluation.specs.State.{State, now, Event, tested, reported, with_event, with_line, Completion, answer, jumps, returns, throws, ended, Outcome, ends, Meaning, Reaction, Given, Callee, Known, Setting, World}
+use Rattle.evaluation.specs.State.{State, now, Event, tested, reported, with_event, with_line, answer, jumps, returns, throws, ended, Outcome, ends, Meaning, Reaction, Given, Callee, Known, Setting, World}
 use Rattle.evaluation.specs.Sequence.{on_answer, is_true}
 use Rattle.evaluation.specs.Values.{head_of, arguments_here}
 use Rattle.evaluation.specs.Evaluation.{eval, evals, part, clauses, nested, site, unary, binary, row, binding, returned}
-use Rattle.evaluation.specs.Invocation.{leaving}
 use Rattle.evaluation.specs.Statements as s
 use Rattle.evaluation.specs.Variables.{declare, settled}
 use Rattle.evaluation.specs.Checks.{passes, judged, OnFailure, lets_pass, reports, reaction, report_line, site_place}
@@ -31,7 +28,7 @@ use Rattle.evaluation.proofs.Chapters as p
 use Rattle.evaluation.proofs.Calls as calls
 use Rattle.evaluation.proofs.Cases as switches
 use Rattle.evaluation.proofs.Forms as forms
-use Rattle.evaluation.proofs.Kept.{Kept, Keeps, kept_then, kept_logic, kept_ends, kept_site, front, before}
+use Rattle.evaluation.proofs.Kept.{Kept, Keeps, kept_then, kept_logic, kept_ends, kept_site, front}
 use Rattle.machine_frame.specs.declared.around.Around.{Around}
 use Rattle.machine_frame.specs.declared.run.Turn.{Turn}
 use Rattle.machine_frame.specs.declared.run.Frame.{Frame}
@@ -40,7 +37,7 @@ use Rattle.machine_frame.specs.declared.run.Run.{Run}
 use Rattle.machine_frame.specs.Outside.{checking_of, failing, known_of, setting_of, world_in, IsAdmitted}
 use Rattle.machine_lookup.specs.Rows.{last_of, but_last}
 use Rattle.machine_frame.specs.Labels.{labels, labelled_all}
-use Rattle.machine_frame.specs.Frames.{Below, below, forms_of, loop_of, next_turn, tested as tested_by, updated, done, done_of, joins, last_body, completed, thrown_of, given_of, activation_of, branches_of, case_from, case_falls, resumed, resume_from, resume, mute, below_of, seen, does, ending, ending_row}
+use Rattle.machine_frame.specs.Frames.{Below, below, forms_of, loop_of, next_turn, tested as tested_by, done, done_of, joins, last_body, completed, thrown_of, given_of, activation_of, branches_of, case_from, case_falls, resumed, resume_from, resume, mute, below_of, seen, does, ending, ending_row}
 
 mute_front : (e : Event) (o : Outcome) → mute (front e o) ≡ mute o
 mute_front e (ends c st) = refl

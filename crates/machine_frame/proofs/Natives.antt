@@ -1,5 +1,5 @@
 -- What natives do that are not the evaluator's, and those of numbers.
-use Rattle.std.proofs.Common.{◌≡◌, ℕ, ◌+◌, ◌-◌, ◌/◌, List, [], ◌∷◌, take, sum_by, refl, sym, ap, ◌∙◌, nat_lt, Bool, true, false, if◌then◌else◌, ℤ, ◌==◌, ◌&&◌, Option, Some, None, slice_get, slice_index_or, pos, arith}
+use Rattle.std.proofs.Common.{◌≡◌, ℕ, ◌+◌, ◌-◌, ◌/◌, List, [], ◌∷◌, take, sum_by, refl, ap, ◌∙◌, Bool, true, false, if◌then◌else◌, ℤ, ◌==◌, ◌&&◌, Option, Some, None, slice_get, pos, arith}
 use Rattle.std.proofs.lemmas.Option.{none-some, same_Some}
 use Rattle.dart_base.specs.declared.place.Place.{Place}
 use Rattle.dart_ir.specs.declared.native.Answer.{Answer}
@@ -19,7 +19,7 @@ use Rattle.native_base.specs.Plan.{outcome, work, text_at, text_of, needs, value
 use Rattle.native_list.specs.List.{fixed_of, of_list, item}
 use Rattle.native_number.specs.Number.{is_unary, unary, is_binary, binary, number_of, with_one, with_two, number_native}
 use Rattle.dart_native.specs.Native.{argument, arity, is_of_evaluator, or_null, plan_on, plan, units_in}
-use Rattle.evaluation.specs.State.{State, answer, NativeEnd, gives, ends, Meaning}
+use Rattle.evaluation.specs.State.{State, answer, gives, ends, Meaning}
 use Rattle.evaluation.specs.Sequence.{taken, taking}
 use Rattle.evaluation.specs.Externals.{native, native_left, native_call, native_answer, stepped_native}
 use Rattle.machine_frame.specs.declared.around.Around.{Around}

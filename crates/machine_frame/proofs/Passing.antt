@@ -1,5 +1,5 @@
 -- What passes a form that waits for an answer.
-use Rattle.std.proofs.Common.{◌≡◌, ◌≢◌, ℕ, ◌+◌, Bool, true, false, nat_le, List, [], ◌∷◌, length, refl, ap}
+use Rattle.std.proofs.Common.{◌≡◌, ◌≢◌, ◌+◌, Bool, true, false, nat_le, [], ◌∷◌, length, refl, ap}
 use Rattle.dart_base.specs.declared.place.Place.{Place}
 use Rattle.dart_ir.specs.declared.value.Value.{Value}
 use Rattle.evaluation.specs.State.{State, Known, Completion, answer, jumps, returns, throws, ended, ends, Meaning}

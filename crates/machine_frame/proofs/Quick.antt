@@ -1,10 +1,10 @@
 -- Operands that are answered at once.
-use Rattle.std.proofs.Common.{◌≡◌, ◌≢◌, ℕ, ◌-◌, List, [], ◌∷◌, refl, ap, ◌∙◌, false, true}
+use Rattle.std.proofs.Common.{◌≡◌, ◌≢◌, ℕ, ◌-◌, List, [], ◌∷◌, refl, ap, ◌∙◌, false}
 use Rattle.dart_base.specs.declared.place.Place.{Place}
 use Rattle.dart_ir.specs.declared.native.NativeId.{NativeId}
 use Rattle.dart_ir.specs.declared.value.Value.{Value}
 use Rattle.core_program.specs.Core as c
-use Rattle.evaluation.specs.State.{State, Completion, answer, Outcome, ends, World}
+use Rattle.evaluation.specs.State.{State, answer, Outcome, ends, World}
 use Rattle.evaluation.specs.Sequence.{on_answer, on_answers}
 use Rattle.evaluation.specs.Evaluation.{eval, act, evals, leaf, row}
 use Rattle.evaluation.specs.Externals.{native}

@@ -1,7 +1,7 @@
 -- Frames that are pushed, and calls that nest.
-use Rattle.std.proofs.Common.{◌≡◌, ◌≢◌, ℕ, zero, suc, ◌-◌, List, [], ◌∷◌, ◌++◌, refl, ap, ◌∙◌, reverse, arith}
+use Rattle.std.proofs.Common.{◌≡◌, ◌≢◌, ℕ, zero, suc, ◌-◌, List, [], ◌∷◌, ◌++◌, refl, ap, reverse, arith}
 use Rattle.std.proofs.lemmas.List.{reverse-append}
-use Rattle.evaluation.specs.State.{State, Completion, ended, out_of_depth, Outcome, ends, Setting, Reaction, Given, Callee, World}
+use Rattle.evaluation.specs.State.{State, ended, out_of_depth, Outcome, ends, Setting, Reaction, Given, Callee}
 use Rattle.evaluation.specs.Classes.{function_at, static_of}
 use Rattle.evaluation.specs.Evaluation.{body_of, init_of, world_over, nested}
 use Rattle.machine_frame.specs.declared.around.Around.{Around}

@@ -1,12 +1,12 @@
 -- Steps that are taken.
-use Rattle.std.proofs.Common.{◌≡◌, ◌≢◌, ◌<◌, ◌+◌, ◌++◌, ℕ, zero, suc, ◌-◌, List, [], ◌∷◌, refl, ap, ◌∙◌, nat_lt, true, false, arith}
+use Rattle.std.proofs.Common.{◌≡◌, ◌≢◌, ◌<◌, ◌+◌, ◌++◌, ℕ, suc, ◌-◌, List, [], ◌∷◌, ap, ◌∙◌, nat_lt, true, false, arith}
 use Rattle.std.proofs.lemmas.Bool.{le-ltb, lt-ltb}
 use Rattle.dart_base.specs.declared.place.Place.{Place}
 use Rattle.core_program.specs.Core.{Core, Form}
 use Rattle.core_program.specs.Core as c
 use Rattle.core_program.specs.Program.{Parameter}
-use Rattle.evaluation.specs.State.{State, Completion, ended, out_of_steps, Outcome, ends, Meaning, Given, World}
-use Rattle.evaluation.specs.Sequence.{on_answer, taken, taking, entering}
+use Rattle.evaluation.specs.State.{State, ended, out_of_steps, ends, Meaning, Given, World}
+use Rattle.evaluation.specs.Sequence.{on_answer, taken, entering}
 use Rattle.evaluation.specs.Parts.{takes_step}
 use Rattle.evaluation.specs.Evaluation.{eval, act, stepped, bind_one, binding}
 use Rattle.machine_frame.specs.declared.run.Exit.{Exit}

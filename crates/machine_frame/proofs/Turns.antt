@@ -1,10 +1,10 @@
 -- Turns of a loop, cases of a switch, and calls that come again.
-use Rattle.std.proofs.Common.{◌≡◌, ◌≢◌, ℕ, ◌-◌, List, map, drop, Option, true, refl, ◌∙◌}
+use Rattle.std.proofs.Common.{◌≡◌, ◌≢◌, ℕ, ◌-◌, List, map, drop, Option, true, ◌∙◌}
 use Rattle.dart_ir.specs.declared.value.Value.TheVariants.{Null, Bool as Truth}
 use Rattle.core_program.specs.View as v
 use Rattle.core_program.specs.Core.{Part}
 use Rattle.core_program.specs.Core as c
-use Rattle.evaluation.specs.State.{State, ended, out_of_steps, Outcome, ends, Given}
+use Rattle.evaluation.specs.State.{State, ended, out_of_steps, ends, Given}
 use Rattle.evaluation.specs.Sequence.{on_answer, branch}
 use Rattle.evaluation.specs.Evaluation.{part}
 use Rattle.evaluation.specs.Statements.{done, body_of_turn, loop, run_cases, after_cases}

@@ -1,9 +1,9 @@
 -- The type arguments of bodies, the last of which are those of the body at work.
 use Rattle.std.specs.Global.{Vec}
-use Rattle.std.proofs.Common.{◌≡◌, ℕ, zero, suc, ◌+◌, ◌-◌, List, [], ◌∷◌, ◌++◌, length, map, true, Option, Some, refl, ap, ◌∙◌, arith, length-append}
+use Rattle.std.proofs.Common.{◌≡◌, ◌-◌, List, [], ◌∷◌, ◌++◌, length, map, true, Some, refl, ap, ◌∙◌, arith, length-append}
 use Rattle.std.specs.Prelude.{slice_get}
 use Rattle.dart_ir.specs.declared.types.TypeRef.{TypeRef}
-use Rattle.dart_ir.specs.Ty.{Ty, ty}
+use Rattle.dart_ir.specs.Ty.{ty}
 use Rattle.machine_frame.specs.Frames.{given_types, types_of, types_under}
 use Rattle.machine_frame.proofs.Rows.{but_push, but_none}
 

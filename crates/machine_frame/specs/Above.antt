@@ -1,6 +1,6 @@
 -- Means of proof, which no public contract cites. Classes without type parameters that stand above one another (ECMA-408, 10.9
 -- Superclasses).
-use Rattle.std.specs.Prelude.{◌≡◌, ◌≤◌, ℕ, suc, true, Some}
+use Rattle.std.specs.Prelude.{◌≡◌, ◌≤◌, ℕ, suc, true}
 use Rattle.dart_ir.specs.Ty.{Tys, class, nil, cons}
 use Rattle.dart_ir.specs.declared.class.Classes.{Classes}
 use Rattle.dart_type.specs.Relation.{table_of}

@@ -1,9 +1,7 @@
 -- What the frames of the machine stand for.
-use Rattle.std.specs.Prelude.{◌≡◌, Bool, true, false, Option, Some, None, ℕ, suc, ◌+◌, ◌-◌, ◌*◌, List, [], ◌∷◌, ◌++◌, length, map, reverse, take, drop, slice_get}
+use Rattle.std.specs.Prelude.{◌≡◌, Bool, true, false, Option, Some, None, ℕ, ◌+◌, ◌-◌, ◌*◌, List, [], ◌∷◌, ◌++◌, length, map, reverse, take, drop, slice_get}
 use Rattle.std.specs.Global.{Vec}
-use Rattle.dart_base.specs.declared.name.Name.{Name}
 use Rattle.dart_base.specs.declared.place.Place.{Place}
-use Rattle.dart_ir.specs.declared.ending.Line.{Line}
 use Rattle.dart_ir.specs.declared.value.Value.{Value}
 use Rattle.dart_ir.specs.declared.value.Value.TheVariants.{Null, Bool as Truth, At}
 use Rattle.dart_ir.specs.declared.types.TypeRef.{TypeRef}
@@ -11,7 +9,6 @@ use Rattle.dart_ir.specs.Ty.{Ty, ty}
 use Rattle.dart_store.specs.Heap.{Heap, with_field_at}
 use Rattle.core_program.specs.declared.form.Case.{Case}
 use Rattle.core_program.specs.declared.form.Core.{Core}
-use Rattle.core_program.specs.declared.form.Handler.{Handler}
 use Rattle.core_program.specs.declared.form.Form.TheViews.{out-Attempt}
 use Rattle.core_program.specs.Core as c
 use Rattle.core_program.specs.View as v

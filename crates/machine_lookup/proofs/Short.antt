@@ -1,5 +1,5 @@
 -- Functions that are natives or that read or write a field, as the code sees them.
-use Rattle.std.proofs.Common.{◌≡◌, ℕ, List, [], ◌∷◌, map, Option, Some, None, Bool, true, false, ◌&&◌, cond, nat_lt, ◌<◌, refl, sym, ap, ◌∙◌, arith}
+use Rattle.std.proofs.Common.{◌≡◌, ℕ, List, [], ◌∷◌, map, Option, Some, None, true, ◌&&◌, cond, nat_lt, ◌<◌, sym, ap, ◌∙◌}
 use Rattle.std.proofs.lemmas.Bool.{lt-ltb}
 use Rattle.dart_base.specs.declared.name.Name.{Name}
 use Rattle.dart_ir.specs.declared.kind.Shape.{Shape}
@@ -20,11 +20,10 @@ use Rattle.core_program.specs.declared.program.Parameter.{Parameter}
 use Rattle.core_program.specs.Core as c
 use Rattle.core_program.specs.View as v
 use Rattle.core_program.specs.ProgramView as p
-use Rattle.core_program.specs.Program as q
 use Rattle.core_program.proofs.Views.{core_out, view_row, view_unary, view_leaf, arguments_out}
 use Rattle.evaluation.specs.Arguments.{is_required}
 use Rattle.evaluation.specs.Parts.{form_of}
-use Rattle.machine_lookup.specs.Shapes.{is_this, is_this_leaf, reads, reads_leaf, native_of_job, native_of_form, native_of_body, native_over, native_of, is_none, Reading, a_native, native_reading, reading_of_form, reading_of_row, field_written, writing_of_form, writing_of_body, writing_over, writing_of}
+use Rattle.machine_lookup.specs.Shapes.{is_this, is_this_leaf, reads, reads_leaf, native_of_job, native_of_form, native_of_body, native_over, native_of, is_none, a_native, native_reading, reading_of_form, field_written, writing_of_form, writing_of_body, writing_over, writing_of}
 
 pub this_seen : (core : Core) (leaf : Leaf) → (out-Core core).form ≡ k.Leaf leaf → is_this_leaf (v.leaf leaf) ≡ true → is_this (v.form (out-Core core).form) ≡ true
 this_seen core leaf is this = ap (λ q. is_this (v.form q)) is ∙ ap is_this (view_leaf leaf) ∙ this

@@ -1,5 +1,5 @@
 -- Tables of members.
-use Rattle.std.proofs.Common.{◌≡◌, ℕ, zero, suc, List, [], ◌∷◌, ◌++◌, replicate, Option, Some, None, IfSome, slice_index_or, slice_set, subst}
+use Rattle.std.proofs.Common.{◌≡◌, ℕ, zero, suc, List, [], ◌∷◌, replicate, Option, Some, None, IfSome, slice_index_or, slice_set, subst}
 use Rattle.std.proofs.lemmas.Option.{none-some}
 use Rattle.core_program.specs.Program.{Program}
 use Rattle.machine_lookup.specs.declared.linked.Found.{Found}

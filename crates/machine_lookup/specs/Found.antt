@@ -1,5 +1,5 @@
 -- What a table says of the members of a program.
-use Rattle.std.specs.Prelude.{◌≡◌, ℕ, List, [], ◌∷◌, Option, Some, None, IfSome}
+use Rattle.std.specs.Prelude.{◌≡◌, ℕ, List, [], ◌∷◌, Option, Some, IfSome}
 use Rattle.dart_ir.specs.declared.class.Role.TheVariants.{Method, Getter, Setter}
 use Rattle.core_program.specs.Program.{Program}
 use Rattle.evaluation.specs.Classes.{member}

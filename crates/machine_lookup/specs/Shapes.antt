@@ -1,7 +1,7 @@
 -- What a function is in short: a native of `this` and its parameter, a native of `this`, a field that is read, or a field that is
 -- written (ECMA-408, 9.4 External Functions, 10.1.1 Operators, 10.2 Getters, 10.3 Setters).
-use Rattle.std.specs.Prelude.{◌≡◌, ℕ, List, [], ◌∷◌, Bool, true, false, ◌&&◌, nat_eq, nat_lt, Option, Some, None, cond, IfSome}
-use Rattle.dart_ir.specs.declared.class.Role.TheVariants.{Method, Getter, Setter}
+use Rattle.std.specs.Prelude.{ℕ, List, [], ◌∷◌, Bool, true, false, ◌&&◌, nat_eq, nat_lt, Option, Some, None, cond}
+use Rattle.dart_ir.specs.declared.class.Role.TheVariants.{Method}
 use Rattle.dart_ir.specs.declared.native.NativeId.{NativeId}
 use Rattle.core_program.specs.Core.{Leaf, Form, Cores, Part}
 use Rattle.core_program.specs.Core as c

@@ -1,6 +1,6 @@
 -- Getters that read a field, or are a native of `this`: what they come to.
-use Rattle.std.proofs.Common.{◌≡◌, ◌≢◌, ℕ, suc, ◌-◌, ◌≤◌, List, [], ◌∷◌, Bool, true, false, Option, Some, None, IfSome, refl, sym, subst, ap, ◌∙◌, arith}
-use Rattle.std.proofs.lemmas.Option.{none-some, same_Some}
+use Rattle.std.proofs.Common.{◌≡◌, ◌≢◌, ℕ, ◌-◌, ◌≤◌, List, [], ◌∷◌, Bool, true, false, Option, Some, None, IfSome, refl, sym, subst, ap, ◌∙◌, arith}
+use Rattle.std.proofs.lemmas.Option.{none-some}
 use Rattle.dart_base.specs.declared.place.Place.{Place}
 use Rattle.dart_ir.specs.declared.class.Role.TheVariants.{Method, Getter}
 use Rattle.dart_ir.specs.declared.native.NativeId.{NativeId}
@@ -9,7 +9,7 @@ use Rattle.dart_ir.specs.declared.value.Value.TheVariants.{Null}
 use Rattle.dart_store.specs.Heap.{field_of}
 use Rattle.core_program.specs.Core as c
 use Rattle.core_program.specs.Program.{Parameter, Function, Program}
-use Rattle.evaluation.specs.State.{State, Activation, answer, Outcome, ends, Meaning, Callee, World}
+use Rattle.evaluation.specs.State.{State, answer, Outcome, ends, World}
 use Rattle.evaluation.specs.Sequence.{on_answer, on_answers}
 use Rattle.evaluation.specs.Arguments.{nothing_given}
 use Rattle.evaluation.specs.Checks.{reaction}
@@ -22,10 +22,9 @@ use Rattle.evaluation.specs.Values.{class_of, object_at}
 use Rattle.machine_lookup.specs.declared.linked.Found.{Found}
 use Rattle.machine_lookup.specs.declared.shapes.Reads.{Reads}
 use Rattle.machine_lookup.specs.Found.{IsFound, reading}
-use Rattle.machine_lookup.specs.Shapes.{is_this_leaf, is_this, native_of_job, Reading, a_field, a_native, native_reading, reading_of_row, reading_of_leaf, reading_of_form, reading_of_body, reading_over, reading_of_function, reading_of_member}
+use Rattle.machine_lookup.specs.Shapes.{is_this, native_of_job, Reading, a_field, a_native, native_reading, reading_of_row, reading_of_leaf, reading_of_body, reading_over, reading_of_function, reading_of_member}
 use Rattle.machine_frame.specs.declared.around.Around.{Around}
 use Rattle.machine_frame.specs.Outside.{checking_of, setting_of, failing, world_in}
-use Rattle.machine_frame.specs.Frames.{mute}
 use Rattle.machine_frame.proofs.Quick.{leaf_enters, row_enters}
 use Rattle.machine_frame.proofs.Resume.{calls_suc}
 use Rattle.machine_loop.specs.Operator.{ReadsAtOnce, IsReading}

@@ -1,6 +1,5 @@
 -- Natives of lists that only read.
-use Rattle.std.proofs.Common.{◌≡◌, ℕ, ◌∷◌, [], Bool, Option, Some, ℤ, pos, slice_get, sym, ap, ◌∙◌}
-use Rattle.dart_base.specs.declared.place.Place.{Place}
+use Rattle.std.proofs.Common.{◌≡◌, ℕ, ◌∷◌, [], Bool, Some, ℤ, pos, slice_get, sym, ap, ◌∙◌}
 use Rattle.dart_ir.specs.declared.native.NativeId.TheVariants as n
 use Rattle.dart_ir.specs.declared.number.Ref.{Ref}
 use Rattle.dart_ir.specs.declared.value.Value.{Value}
@@ -10,7 +9,7 @@ use Rattle.dart_store.specs.declared.store.Kind.TheVariants as kind
 use Rattle.dart_store.specs.Heap.{Heap, kind_of, length_of, field_at}
 use Rattle.native_base.specs.Plan.{place}
 use Rattle.native_number.specs.Number.{number_of}
-use Rattle.evaluation.specs.State.{State, answer, ends}
+use Rattle.evaluation.specs.State.{answer, ends}
 use Rattle.evaluation.specs.Externals.{native}
 use Rattle.machine_frame.specs.declared.around.Around.{Around}
 use Rattle.machine_frame.specs.Outside.{setting_of}

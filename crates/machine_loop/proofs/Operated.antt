@@ -1,5 +1,5 @@
 -- Operators that are natives of numbers: what a call of one comes to.
-use Rattle.std.proofs.Common.{◌≡◌, ◌≢◌, ℕ, zero, suc, ◌+◌, ◌-◌, ◌≤◌, ◌<◌, nat_le, ◌==◌, not, List, [], ◌∷◌, length, replicate, Bool, true, false, ◌&&◌, nat_eq, nat_lt, Option, Some, None, IfSome, cond, position, is_some, slice_index_or, slice_set, map, refl, sym, subst, ap, ◌∙◌, arith}
+use Rattle.std.proofs.Common.{◌≡◌, ◌≢◌, ℕ, ◌+◌, ◌-◌, ◌≤◌, ◌<◌, nat_le, ◌==◌, not, List, [], ◌∷◌, length, replicate, Bool, true, false, ◌&&◌, nat_eq, nat_lt, Option, Some, None, IfSome, cond, position, is_some, map, refl, sym, subst, ap, ◌∙◌, arith}
 use Rattle.std.proofs.lemmas.Bool.{eqb-true, ltb-true}
 use Rattle.std.proofs.lemmas.List.{get_or-set_same, length-replicate}
 use Rattle.std.proofs.lemmas.Option.{none-some, same_Some}
@@ -7,7 +7,6 @@ use Rattle.dart_base.specs.declared.place.Place.{Place}
 use Rattle.dart_ir.specs.declared.class.Role.TheVariants.{Method, Getter}
 use Rattle.dart_ir.specs.declared.kind.Shape.{Shape}
 use Rattle.dart_ir.specs.declared.kind.Shape.TheVariants.{Required}
-use Rattle.dart_ir.specs.declared.native.Answer.{Answer}
 use Rattle.dart_ir.specs.declared.native.Answer.TheVariants as a
 use Rattle.dart_ir.specs.declared.native.NativeId.{NativeId}
 use Rattle.dart_ir.specs.declared.native.NativeId.TheVariants as n
@@ -24,16 +23,14 @@ use Rattle.core_program.specs.declared.form.Form.{Form}
 use Rattle.core_program.specs.declared.form.Form as k
 use Rattle.core_program.specs.declared.form.Form.TheViews.{out-Core, out-Arguments}
 use Rattle.core_program.specs.declared.form.Job.{Job}
-use Rattle.core_program.specs.declared.form.Leaf.{Leaf}
-use Rattle.core_program.specs.declared.form.Job.TheVariants as j
 use Rattle.core_program.specs.declared.form.Unary.{Unary}
 use Rattle.core_program.specs.declared.form.Unary.TheVariants as of_one
 use Rattle.core_program.specs.View as v
-use Rattle.core_program.proofs.Views.{core_out, view_row, view_binary, view_unary, view_leaf, arguments_out}
+use Rattle.core_program.proofs.Views.{core_out, view_row, view_binary, view_unary, arguments_out}
 use Rattle.core_program.specs.Core as c
 use Rattle.core_program.specs.Program.{Parameter, Function, Program}
 use Rattle.native_number.specs.Number.{number_native}
-use Rattle.evaluation.specs.State.{Event, State, Activation, Source, a_function, now, tested, with_event, Completion, answer, Outcome, ends, Meaning, Given, Callee, World}
+use Rattle.evaluation.specs.State.{Event, State, Activation, Source, a_function, now, tested, with_event, answer, Outcome, ends, Meaning, Callee, World}
 use Rattle.evaluation.specs.Sequence.{on_answer, on_answers, chosen}
 use Rattle.evaluation.specs.Arguments.{alone, is_required, is_named, one_if, fit, fits, value_by}
 use Rattle.evaluation.specs.Classes.{function_at, member, member_at, member_function, member_owner}
@@ -42,8 +39,8 @@ use Rattle.evaluation.specs.Externals.{native}
 use Rattle.evaluation.specs.Parts.{form_of, is_block_part, is_closure, is_join, takes_step}
 use Rattle.evaluation.specs.Checks.{reaction}
 use Rattle.evaluation.specs.Variables.{function_cells, function_captures, has_cell, own_room, room_at, value_in, variable, with_slot, declared, declare}
-use Rattle.evaluation.specs.Evaluation.{eval, evals, act, part, row, unary, binary, before_operand, site, binding, bind_one, returned, activation, body_of, world_over, nested}
-use Rattle.evaluation.specs.Invocation.{leaving, receiving, member_fits, member_call, missing_from, fitting, sent, send_from, send, get, equal}
+use Rattle.evaluation.specs.Evaluation.{eval, evals, act, part, row, unary, binary, before_operand, site, binding, returned, activation, body_of}
+use Rattle.evaluation.specs.Invocation.{leaving, receiving, member_call, missing_from, fitting, sent, send_from, send, equal}
 use Rattle.machine_frame.specs.declared.around.Around.{Around}
 use Rattle.machine_frame.specs.declared.run.Run.{Run}
 use Rattle.machine_frame.specs.Outside.{checking_of, failing, setting_of, world_in, IsAdmitted}
@@ -58,7 +55,7 @@ use Rattle.machine_frame.proofs.Steps.{binding_begins, form_enters}
 use Rattle.machine_lookup.specs.Rows.{but_last}
 use Rattle.machine_lookup.specs.declared.linked.Found.{Found}
 use Rattle.machine_lookup.specs.Found.{IsFound}
-use Rattle.machine_lookup.specs.Shapes.{is_this, is_this_leaf, reads, reads_leaf, are_operands, native_of_job, native_of_form, native_of_body, native_over, is_none, native_of, native_of_function, native_of_member, operator}
+use Rattle.machine_lookup.specs.Shapes.{is_this, is_this_leaf, reads, reads_leaf, are_operands, native_of_job, native_of_body, native_over, is_none, native_of_function, native_of_member, operator}
 use Rattle.machine_loop.specs.Operator.{AnswersAtOnce, IsTaken, site_of_member, site_of_function, site_of_parameters}
 
 -- so many steps less

@@ -1,23 +1,19 @@
 -- Statements that are done without a frame.
-use Rattle.std.proofs.Common.{◌≡◌, ◌≢◌, ℕ, ◌-◌, ◌<◌, List, ◌∷◌, take, false, sym, ap, ◌∙◌}
+use Rattle.std.proofs.Common.{◌≡◌, ℕ, List, ◌∷◌, take, false, sym, ap, ◌∙◌}
 use Rattle.std.specs.Global.{Vec}
 use Rattle.std.specs.Borrow.{Bor}
 use Rattle.dart_ir.specs.declared.types.TypeRef.{TypeRef}
 use Rattle.dart_ir.specs.declared.value.Value.{Value}
 use Rattle.core_program.specs.declared.form.Core.{Core}
-use Rattle.core_program.specs.declared.form.Form as k
-use Rattle.core_program.specs.declared.form.Form.TheViews.{out-Core}
-use Rattle.core_program.specs.declared.form.Unary.{Unary}
 use Rattle.core_program.specs.View as v
-use Rattle.evaluation.specs.State.{State, Outcome, answer, ends}
+use Rattle.evaluation.specs.State.{Outcome, answer, ends}
 use Rattle.evaluation.specs.Sequence.{in_order}
-use Rattle.evaluation.specs.Evaluation.{eval, evals, unary}
-use Rattle.evaluation.specs.Parts.{form_of, is_closure}
+use Rattle.evaluation.specs.Evaluation.{eval, evals}
 use Rattle.machine_frame.specs.declared.around.Around.{Around}
 use Rattle.machine_frame.specs.declared.run.Frame.TheVariants as f
 use Rattle.machine_frame.specs.declared.run.Body.{Body}
 use Rattle.machine_frame.specs.declared.run.Run.{Run}
-use Rattle.machine_frame.specs.Outside.{setting_of, world_in}
+use Rattle.machine_frame.specs.Outside.{world_in}
 use Rattle.machine_frame.specs.Frames.{Below, seen, below_of, resume, resumed, does, mute, forms_of, types_under, IsBeside}
 use Rattle.machine_frame.proofs.Mute.{answered_goes, resumed_keeps}
 use Rattle.machine_loop.specs.Simple.{IsDone}

@@ -1,5 +1,5 @@
 -- Setters that write a field: what they come to.
-use Rattle.std.proofs.Common.{◌≡◌, ◌≢◌, ℕ, ◌-◌, ◌≤◌, ◌<◌, nat_lt, List, [], ◌∷◌, Bool, true, false, ◌&&◌, Option, Some, None, IfSome, cond, inl, refl, sym, subst, ap, ◌∙◌, arith}
+use Rattle.std.proofs.Common.{◌≡◌, ◌≢◌, ℕ, ◌-◌, ◌≤◌, nat_lt, List, [], ◌∷◌, true, false, ◌&&◌, Option, Some, None, IfSome, inl, refl, sym, subst, ap, ◌∙◌, arith}
 use Rattle.std.proofs.lemmas.Bool.{ltb-true}
 use Rattle.std.proofs.lemmas.Option.{none-some}
 use Rattle.dart_base.specs.declared.place.Place.{Place}
@@ -16,7 +16,7 @@ use Rattle.evaluation.specs.Arguments.{alone, is_required, fit, fits}
 use Rattle.evaluation.specs.Checks.{reaction}
 use Rattle.evaluation.specs.Classes.{function_at, member, member_at, member_function, member_owner}
 use Rattle.evaluation.specs.Evaluation.{part, unary, body_of}
-use Rattle.evaluation.specs.Invocation.{leaving, receiving, member_call, missing_from, fitting, setting, set_from, set}
+use Rattle.evaluation.specs.Invocation.{leaving, receiving, member_call, missing_from, fitting, setting, set_from}
 use Rattle.evaluation.specs.Parts.{is_block_part}
 use Rattle.evaluation.specs.Values.{class_of, object_at}
 use Rattle.evaluation.specs.Variables as vars

@@ -2,12 +2,12 @@
 use Rattle.std.specs.Prelude.{◌≡◌, ◌<◌}
 use Rattle.core_program.specs.declared.form.Core.{Core}
 use Rattle.core_program.specs.View as v
-use Rattle.evaluation.specs.State.{Outcome, answer, ends}
+use Rattle.evaluation.specs.State.{answer, ends}
 use Rattle.evaluation.specs.Evaluation.{eval}
 use Rattle.machine_frame.specs.declared.around.Around.{Around}
 use Rattle.machine_frame.specs.declared.run.Run.{Run}
 use Rattle.machine_frame.specs.Outside.{world_in}
-use Rattle.machine_frame.specs.Frames.{Below, seen, below_of, mute}
+use Rattle.machine_frame.specs.Frames.{seen, below_of, mute}
 
 -- The form is done: its answer is the run's, and what waits for it is what waited before.
 pub record IsDone (a : Around) (one : Core) (old new : Run) : Type 0 where

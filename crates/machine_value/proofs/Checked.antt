@@ -2,7 +2,6 @@
 use Rattle.std.specs.Borrow.{Bor}
 use Rattle.std.proofs.Common.{◌≡◌, refl, ℕ, ◌++◌, List, [], ◌∷◌, true, false, Option, Some, None, IfSome, MatchOption, sym, ap, subst, ◌∙◌}
 use Rattle.dart_ir.specs.Ty.{Ty}
-use Rattle.dart_ir.specs.declared.ending.Line.{Line}
 use Rattle.dart_ir.specs.declared.ending.Line.TheVariants.{Report}
 use Rattle.dart_ir.specs.declared.kind.ThrowKind.TheVariants.{TypeError}
 use Rattle.dart_ir.specs.declared.value.Value.{Value}

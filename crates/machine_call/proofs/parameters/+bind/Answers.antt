@@ -1,10 +1,10 @@
-use Rattle.std.proofs.Common.{◌≡◌, ℕ, suc, ◌+◌, ◌-◌, List, [], ◌∷◌, map, sym, ap, ◌∙◌, rules, arith}
+use Rattle.std.proofs.Common.{◌≡◌, suc, ◌-◌, List, ◌∷◌, map, sym, ap, ◌∙◌, rules, arith}
 use Rattle.dart_ir.specs.declared.value.Value.{Value}
 use Rattle.dart_ir.specs.declared.value.Value.TheVariants.{Null}
 use Rattle.core_program.specs.View as v
 use Rattle.core_program.specs.ProgramView as p
 use Rattle.core_program.specs.declared.program.Parameter.{Parameter}
-use Rattle.evaluation.specs.State.{Given, Meaning, World}
+use Rattle.evaluation.specs.State.{Meaning, World}
 use Rattle.evaluation.specs.Sequence.{on_answer}
 use Rattle.evaluation.specs.Evaluation.{part, binding, site}
 use Rattle.machine_frame.specs.declared.run.Control.{Control}

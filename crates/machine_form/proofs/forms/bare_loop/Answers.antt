@@ -1,4 +1,4 @@
-use Rattle.std.proofs.Common.{◌≡◌, ℕ, List, sym, ap, ◌∙◌}
+use Rattle.std.proofs.Common.{ℕ, List, sym, ap, ◌∙◌}
 use Rattle.core_program.specs.Core as form
 use Rattle.core_program.specs.View as v
 use Rattle.core_program.specs.declared.form.Form.TheViews.{out-Core}

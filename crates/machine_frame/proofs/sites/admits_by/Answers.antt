@@ -1,5 +1,5 @@
 use Rattle.std.specs.Borrow.{Bor}
-use Rattle.std.proofs.Common.{◌≡◌, ℕ, Option, Some, List, true, ap, ◌∙◌, inr}
+use Rattle.std.proofs.Common.{ℕ, Option, List, ap, ◌∙◌, inr}
 use Rattle.dart_ir.specs.Ty.{Ty}
 use Rattle.core_program.specs.declared.program.CoreProgram.{CoreProgram}
 use Rattle.core_program.specs.Program.{Site}

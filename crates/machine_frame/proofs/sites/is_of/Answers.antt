@@ -1,5 +1,5 @@
-use Rattle.std.proofs.Common.{◌≡◌, ◌≤◌, List, length, true, refl, ap, ◌∙◌, rules, arith}
-use Rattle.dart_ir.specs.Ty.{Ty, ty}
+use Rattle.std.proofs.Common.{◌≡◌, ◌≤◌, length, true, refl, ap, ◌∙◌, rules, arith}
+use Rattle.dart_ir.specs.Ty.{ty}
 use Rattle.dart_ir.proofs.View.{ty_dynamic}
 use Rattle.machine_frame.proofs.Admitted.{is_dynamic, is_reached, no_types, plain_type}
 use Rattle.machine_frame.proofs.sites.is_of.Goals as goal

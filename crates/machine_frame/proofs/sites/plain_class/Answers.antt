@@ -1,4 +1,4 @@
-use Rattle.std.proofs.Common.{◌≡◌, Option, Some, ap, ◌∙◌}
+use Rattle.std.proofs.Common.{Option, ap, ◌∙◌}
 use Rattle.dart_ir.specs.Object.{HeapObject}
 use Rattle.evaluation.specs.Values.{head_of, object_head}
 use Rattle.machine_frame.specs.Outside.{setting_of}

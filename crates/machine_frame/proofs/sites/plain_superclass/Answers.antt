@@ -1,4 +1,4 @@
-use Rattle.std.proofs.Common.{◌≡◌, Some, length, slice_get, sym, ap, ◌∙◌, rules, arith}
+use Rattle.std.proofs.Common.{◌≡◌, length, slice_get, sym, ap, ◌∙◌, rules, arith}
 use Rattle.core_program.specs.declared.program.CoreProgram.{CoreProgram}
 use Rattle.machine_frame.proofs.Admitted.{no_types, superclass_first}
 use Rattle.machine_frame.proofs.sites.plain_superclass.Goals as goal

@@ -1,7 +1,6 @@
-use Rattle.std.proofs.Common.{◌≡◌, List, true, refl, ap, ◌∙◌}
+use Rattle.std.proofs.Common.{refl, ap, ◌∙◌}
 use Rattle.std.proofs.lemmas.Bool.{eq-eqb}
 use Rattle.dart_ir.specs.Object.{HeadTy}
-use Rattle.dart_ir.specs.Ty.{Ty}
 use Rattle.dart_ir.specs.declared.kind.SiteKind.TheVariants as kind
 use Rattle.core_program.specs.ProgramView as p
 use Rattle.evaluation.specs.Checks.{passes_kind}

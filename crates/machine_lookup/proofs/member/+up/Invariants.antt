@@ -1,4 +1,3 @@
-use Rattle.std.proofs.Common.{◌≡◌}
 use Rattle.machine_lookup.proofs.member.+up.Given as goal
 
 abbrev pub decreases-up : goal.decreases-up

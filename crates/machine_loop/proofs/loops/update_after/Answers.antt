@@ -1,6 +1,5 @@
 use Rattle.std.proofs.Common.{sym, ap, ◌∙◌}
 use Rattle.dart_ir.specs.declared.value.Value.TheVariants.{Null}
-use Rattle.core_program.specs.Core as form
 use Rattle.core_program.specs.View as v
 use Rattle.core_program.proofs.Views.{view_missing, view_given}
 use Rattle.evaluation.specs.State.{answer, ends}

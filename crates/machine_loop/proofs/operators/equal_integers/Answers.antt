@@ -1,4 +1,4 @@
-use Rattle.std.proofs.Common.{◌≡◌, ◌==◌, ◌&&◌, sym, ap, ◌∙◌}
+use Rattle.std.proofs.Common.{◌==◌, ◌&&◌, sym, ap, ◌∙◌}
 use Rattle.std.proofs.lemmas.Bool.{eq-eqb, ne_eqb}
 use Rattle.machine_loop.proofs.Operated.{equal_is}
 use Rattle.machine_loop.proofs.operators.equal_integers.Goals as goal

@@ -1,6 +1,5 @@
 use Rattle.std.specs.Global.{Vec}
 use Rattle.std.proofs.Common.{◌≡◌, List, map, Err, OnErr, sym, ap, ◌∙◌, subst}
-use Rattle.dart_ir.specs.declared.native.Answer.{Answer}
 use Rattle.dart_ir.specs.declared.value.Value.{Value}
 use Rattle.dart_store.specs.Heap.{Heap}
 use Rattle.dart_store.specs.declared.store.StoreFault.{StoreFault}

@@ -1,5 +1,5 @@
-use Rattle.std.proofs.Common.{◌≡◌, ℕ, Option, sym, ap, ◌∙◌}
-use Rattle.dart_ir.specs.Ty.{Ty, ty}
+use Rattle.std.proofs.Common.{ℕ, Option, sym, ap, ◌∙◌}
+use Rattle.dart_ir.specs.Ty.{ty}
 use Rattle.dart_ir.proofs.View.{ty_class}
 use Rattle.core_program.specs.Program.{Class, Program}
 use Rattle.evaluation.specs.Checks.{bounds_of, keep_bounds, within_bounds}
