@@ -80,7 +80,7 @@ fn class_info<'a>(program: &'a CoreProgram, class: u32) -> Option<&'a ClassInfo>
     program.classes.classes.get(class as usize)
 }
 
-/// The superclass of a class, where both have no type parameters. `None` says nothing.
+/// The superclass of a class, where it is given without type arguments. `None` says nothing.
 fn plain_superclass(a: Around, class: u32) -> Option<u32>
     ensures { IfSome result (λ e. IsPlainSuperclass a.entry.program.now.classes class e) }
 {
@@ -99,8 +99,8 @@ fn plain_superclass(a: Around, class: u32) -> Option<u32>
     Some(above.0)
 }
 
-/// Whether a class is another one, or so many superclasses below it at most, where none on the way has type parameters. `false` says
-/// nothing.
+/// Whether a class is another one, or so many superclasses below it at most, where each on the way is given without type arguments.
+/// `false` says nothing.
 fn reaches(a: Around, class: u32, wanted: u32, levels: u32) -> bool
     ensures { result ≡ true → IsReached a.entry.program.now.classes class wanted levels }
 {

@@ -1,4 +1,4 @@
--- Statements that are done without a frame.
+-- Means of proof, which no public contract cites: statements that are done without a frame.
 use Rattle.std.specs.Prelude.{◌≡◌, ◌<◌}
 use Rattle.core_program.specs.declared.form.Core.{Core}
 use Rattle.core_program.specs.View as v

@@ -1,4 +1,4 @@
-// Operators of integers that are answered at once, without a frame (ECMA-408, 16.17 Method Invocation).
+// Operators, comparisons, checks and getters that are answered at once, without a frame (ECMA-408, 16.17 Method Invocation).
 #![tactic(auto)]
 
 ghost use Rattle.std.specs.Prelude.{◌≡◌, ◌≤◌, ◌<◌, ◌∷◌, [], Some, true, false, IfSome};
