@@ -1,0 +1,2 @@
+mod ClassesStay
+mod Lists

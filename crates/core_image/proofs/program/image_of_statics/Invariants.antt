@@ -1,0 +1,7 @@
+use Rattle.std.proofs.Common.{◌≡◌, map, take}
+use Rattle.core_program.specs.ProgramView as v
+use Rattle.core_program.specs.Alike as alike
+use Rattle.core_image.proofs.program.image_of_statics.Given as goal
+
+abbrev pub invariant-loop-one : goal.invariant-loop-one
+invariant-loop-one l = map v.static l.made.items ≡ map alike.static (map v.static (take l.one-index l.statics))
