@@ -75,10 +75,10 @@ runs_also x mode other b made r =
         turn = turn;
         is_run = record {
           around = around;
-          stripped = record {
-            program = run.stripped.program;
-            names_same = run.stripped.names_same;
-            known_same = run.stripped.known_same;
+          bare = record {
+            program = run.bare.program;
+            names_same = run.bare.names_same;
+            known_same = run.bare.known_same;
             failing_same = failing_by x other;
             checked_same = program_by x run.around.program.now other;
           };

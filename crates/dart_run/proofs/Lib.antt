@@ -1,4 +1,5 @@
 pub mod Alike
+pub mod AlikeRuns
 pub mod Checked
 pub mod OneRun
 pub mod Runs

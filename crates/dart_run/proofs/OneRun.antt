@@ -52,7 +52,7 @@ module _ (a b : Around) (program_is : v.program a.program.now ≡ v.program b.pr
     call = λ id ts vs h. end_of (n.native (read_same i) id ts vs h);
   }
 
-  setting_same : a.setup.now.isolate ≡ b.setup.now.isolate → setting_of a ≡ setting_of b
+  pub setting_same : a.setup.now.isolate ≡ b.setup.now.isolate → setting_of a ≡ setting_of b
   setting_same isolate_is = λ i. record {
     program = program_is i;
     names = names_is i;
@@ -71,8 +71,8 @@ module _ (a b : Around) (program_is : v.program a.program.now ≡ v.program b.pr
 pub settings_same : (x : CoreProgram) (how others : OnFailure) (b : Budget) (turn other : Option Turn) (r : IsRun x how b turn)
     (s : IsRun x others b other) → setting_of r.around ≡ setting_of s.around
 settings_same x how others b turn other r s =
-    setting_same r.around s.around (r.stripped.program ∙ sym s.stripped.program) (r.stripped.names_same ∙ sym s.stripped.names_same)
-    (r.stripped.known_same ∙ sym s.stripped.known_same) (r.first ∙ sym s.first)
+    setting_same r.around s.around (r.bare.program ∙ sym s.bare.program) (r.bare.names_same ∙ sym s.bare.names_same)
+    (r.bare.known_same ∙ sym s.bare.known_same) (r.first ∙ sym s.first)
 
 turn_is_one : (x : CoreProgram) (how : OnFailure) (b : Budget) (turn other : Option Turn) → IsRun x how b turn → IsRun x how b other → turn ≡ other
 turn_is_one x how b turn other r s =

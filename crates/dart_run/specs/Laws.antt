@@ -1,6 +1,8 @@
 -- The statements of laws of runs.
 use Rattle.std.specs.Prelude.{◌≡◌, ℕ}
 use Rattle.core_program.specs.declared.program.CoreProgram.{CoreProgram}
+use Rattle.core_program.specs.Alike as alike
+use Rattle.core_program.specs.Stripped as stripped
 use Rattle.core_program.specs.ProgramView.{program}
 use Rattle.evaluation.specs.Checks.{OnFailure, lets_pass, reports, report_line}
 use Rattle.evaluation.specs.Turn.{Budget}
@@ -26,3 +28,13 @@ pub data FollowsRun (x : CoreProgram) (production checked : Written) : Type 0 wh
 abbrev pub CheckedRunsFollow : Type 0
 CheckedRunsFollow = (x : CoreProgram) (b : Budget) (made other : Written) → IsRunOf x lets_pass b made → IsRunOf x reports b other
     → FollowsRun x made other
+
+-- They have the same table of names, and are alike once what annotations ask for is gone.
+pub record AreAlikeStripped (x y : CoreProgram) : Type 0 where
+  pub names : x.names ≡ y.names
+  pub alike : alike.program (stripped.program (program x)) ≡ alike.program (stripped.program (program y))
+
+-- In production such programs write the same, and finish alike.
+abbrev pub AlikeRunsAreOne : Type 0
+AlikeRunsAreOne = (x y : CoreProgram) (b : Budget) (made other : Written) → AreAlikeStripped x y → IsRunOf x lets_pass b made
+    → IsRunOf y lets_pass b other → made ≡ other

@@ -7,7 +7,7 @@ use Rattle.evaluation.specs.Checks.{OnFailure, lets_pass, reports}
 use Rattle.evaluation.specs.Turn.{Turn, Budget, new_isolate}
 use Rattle.machine_frame.specs.declared.around.Around.{Around}
 use Rattle.machine_frame.specs.Outside.{setting_of}
-use Rattle.machine_turn.specs.Produced.{RunsStripped, main_turn}
+use Rattle.machine_turn.specs.Produced.{RunsBare, main_turn}
 use Rattle.dart_run.specs.declared.mode.Mode.{Mode}
 use Rattle.dart_run.specs.declared.mode.Mode.TheVariants.{Production, Checked}
 use Rattle.dart_run.specs.declared.written.Written.{Written}
@@ -19,11 +19,11 @@ on_failure Production = lets_pass
 on_failure Checked = reports
 
 -- The turn that a program's `main` starts in the first isolate, within a budget, where this follows a check that fails; none where the
--- program's constants pass the units. What is around it is the program without what annotations ask for: its table of classes, which is
--- valid, tells subtypes, and natives read its names.
+-- program's constants pass the units. What is around it is the bare program: its table of classes, which is valid, tells subtypes, and natives
+-- read its names.
 pub record IsRun (x : CoreProgram) (how : OnFailure) (b : Budget) (turn : Option Turn) : Type 0 where
   pub around : Around
-  pub stripped : RunsStripped around (program x) x.names how
+  pub bare : RunsBare around (program x) x.names how
   pub valid : IsValid around.program.now.classes
   pub first : around.setup.now.isolate ≡ 0
   pub is_turn : turn ≡ option_map (main_turn (setting_of around) (program x) x.names how b.depth) (new_isolate (program x) b)

@@ -1,5 +1,5 @@
 // Laws of runs, without code.
-ghost use Rattle.dart_run.specs.Laws.{CheckedRunsFollow, RunIsOne};
+ghost use Rattle.dart_run.specs.Laws.{AlikeRunsAreOne, CheckedRunsFollow, RunIsOne};
 
 /// What is written of a program's run, and how it finishes, hangs on the program, the mode and the budget alone.
 pub fn run_is_one()
@@ -10,4 +10,10 @@ pub fn run_is_one()
 /// the same, and finish alike.
 pub fn checked_runs_follow()
     ensures { CheckedRunsFollow }
+{}
+
+/// Programs that are alike once stripped of what annotations ask for write the same in production, and finish alike: neither an annotation nor
+/// a column is seen.
+pub fn alike_runs_are_one()
+    ensures { AlikeRunsAreOne }
 {}

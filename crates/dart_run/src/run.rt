@@ -2,15 +2,15 @@
 ghost use Rattle.std.specs.Prelude.{◌≡◌, ◌<◌, ◌^◌, option_map, IfOk};
 ghost use Rattle.dart_ir.specs.Classes.{IsValid};
 ghost use Rattle.core_program.specs.ProgramView as view;
-ghost use Rattle.core_program.specs.Stripped as stripped;
 ghost use Rattle.machine_frame.specs.Outside.{failing};
 ghost use Rattle.machine_turn.specs.Turn.{shown, budget};
-ghost use Rattle.machine_turn.specs.Produced.{RunsStripped};
+ghost use Rattle.machine_turn.specs.Produced.{bare, RunsBare};
 ghost use Rattle.dart_run.specs.Run.{IsRun, IsRunOf, on_failure};
 
 use crate::known::machine_numbers;
 use crate::mode::{Mode, annotated_in};
 use crate::written::{Written, write_turn};
+use core_image::program::image;
 use core_program::program::CoreProgram;
 use core_program::strip::strip;
 use machine_frame::around::{Around, Setup};
@@ -40,8 +40,7 @@ pub fn run_program(
     )
 }
 
-/// Runs the turn that `main` starts, over the program without what its annotations ask for; in checked mode values are checked by the
-/// program with it.
+/// Runs the turn that `main` starts, over the bare program; in checked mode values are checked by the program itself.
 fn run_main(
     alloc: Global,
     program: &CoreProgram,
@@ -55,32 +54,33 @@ fn run_main(
     let Some(known) = machine_numbers(program) else {
         return Err(AllocError);
     };
-    let stripped = without_annotations(alloc, program)?;
+    let made = bare_program(alloc, program)?;
     let setup = Setup {
         known,
         isolate: 0,
         annotated: annotated_in(mode, program),
     };
     let a = Around {
-        program: &stripped,
+        program: &made,
         setup: &setup,
     };
     run_around(alloc, program, a, limits)
 }
 
-/// The program without what its annotations ask for, with the table of its members.
-fn without_annotations(alloc: Global, program: &CoreProgram) -> Result<Linked, AllocError>
+/// The program without what its annotations ask for, and without columns and marks, with the table of its members.
+fn bare_program(alloc: Global, program: &CoreProgram) -> Result<Linked, AllocError>
     requires valid { IsValid program.now.classes }
     ensures valid { IfOk result (λ made. IsValid made.classes) }
     ensures names { IfOk result (λ made. made.names ≡ program.now.names) }
-    ensures program { IfOk result (λ made. view.program made ≡ stripped.program (view.program program.now)) }
+    ensures program { IfOk result (λ made. view.program made ≡ bare (view.program program.now)) }
 {
-    let made = strip(alloc, program)?;
-    let linked = Linked::new(alloc, made)?;
+    let stripped = strip(alloc, program)?;
+    let plain = image(alloc, &stripped)?;
+    let linked = Linked::new(alloc, plain)?;
     Ok(linked)
 }
 
-/// Runs the turn that `main` of the program starts, where the one around is the program without what annotations ask for.
+/// Runs the turn that `main` of the program starts, where the one around is that program bare.
 fn run_around(
     alloc: Global,
     program: &CoreProgram,
@@ -89,7 +89,7 @@ fn run_around(
 ) -> Result<Option<Turned>, AllocError>
     requires valid { IsValid a.program.now.classes }
     requires units { limits.units < 2 ^ 32 }
-    requires stripped { RunsStripped a (view.program program.now) program.now.names (failing a.setup.now.annotated) }
+    requires bare { RunsBare a (view.program program.now) program.now.names (failing a.setup.now.annotated) }
     requires first { a.setup.now.isolate ≡ 0 }
     ensures { IfOk result (λ made. IsRun program.now (failing a.entry.setup.now.annotated) (budget limits) (option_map shown made)) }
 {

@@ -1,26 +1,35 @@
--- The turn of a program without what annotations ask for.
-use Rattle.std.proofs.Common.{◌≡◌, ℕ, List, Option, Some, None, refl, sym, ap, ◌∙◌}
-use Rattle.std.specs.Prelude.{option_map}
+-- The turn of a bare program.
+use Rattle.std.proofs.Common.{◌≡◌, ℕ, List, Option, Some, None, refl, sym, ap, ◌∙◌, cond, nat_le}
+use Rattle.std.proofs.lemmas.List.{length-map}
+use Rattle.std.specs.Prelude.{option_map, replicate}
 use Rattle.std.specs.Borrow.{Bor}
 use Rattle.core_program.specs.declared.program.CoreProgram.{CoreProgram}
 use Rattle.core_program.specs.Program.{Program}
 use Rattle.core_program.specs.ProgramView as p
-use Rattle.core_program.specs.Stripped as stripped
+use Rattle.core_program.specs.Alike as alike
+use Rattle.dart_store.specs.declared.store.Static.TheVariants.{Unset}
 use Rattle.evaluation.specs.State.{Known, Setting}
 use Rattle.evaluation.specs.Checks as checks
 use Rattle.evaluation.specs.Checks.{Checking, OnFailure, reports, world}
-use Rattle.evaluation.specs.Turn.{turn_of, turn, started, begun, Entry, main, Budget, Isolate, new_isolate}
+use Rattle.evaluation.specs.Turn.{turn_of, turn, started, begun, Entry, main, Budget, Isolate, cost_of, isolate_with, new_isolate}
 use Rattle.evaluation.proofs.Unread.{production_checks_nothing}
 use Rattle.machine_frame.specs.declared.around.Around.{Around}
 use Rattle.machine_frame.specs.Outside.{failing, setting_of, checking_of, world_in}
 use Rattle.machine_turn.specs.Turn.{quiet, first_turn}
-use Rattle.machine_turn.specs.Produced.{setting_with, main_turn, RunsStripped, FirstTurnIsProduced}
+use Rattle.machine_turn.specs.Produced.{bare, setting_with, main_turn, RunsBare, FirstTurnIsProduced}
 
 option_same : {A B : Type 0} (f g : A → B) → ((x : A) → f x ≡ g x) → (o : Option A) → option_map f o ≡ option_map g o
 option_same f g h None = refl
 option_same f g h (Some x) = ap Some (h x)
 
-module _ (a : Around) (q : Program ℕ) (names : List (List ℕ)) (how : OnFailure) (same : RunsStripped a q names how) (depth : ℕ) where
+-- a bare program has as many static variables, and the same constants
+pub isolate_bare : (q : Program ℕ) (b : Budget) → new_isolate (bare q) b ≡ new_isolate q b
+isolate_bare q b =
+    ap (λ n. isolate_with b.steps (cond (nat_le (cost_of q.constants) b.units)
+    (Some (record { objects = q.constants; statics = replicate n Unset; used = cost_of q.constants; limit = b.units })) None))
+    (length-map q.statics alike.static)
+
+module _ (a : Around) (q : Program ℕ) (names : List (List ℕ)) (how : OnFailure) (same : RunsBare a q names how) (depth : ℕ) where
   abbrev S : Setting
   S = setting_of a
 
@@ -30,8 +39,8 @@ module _ (a : Around) (q : Program ℕ) (names : List (List ℕ)) (how : OnFailu
   setting_same : S ≡ setting_with S q names
   setting_same =
       ap (λ x. record S { program = x }) same.program
-      ∙ ap (λ ns. record S { program = stripped.program q; names = ns }) same.names_same
-      ∙ ap (λ (k : Known). record S { program = stripped.program q; names = names; known = k }) same.known_same
+      ∙ ap (λ ns. record S { program = bare q; names = ns }) same.names_same
+      ∙ ap (λ (k : Known). record S { program = bare q; names = names; known = k }) same.known_same
 
   checks_same : how ≡ reports → checking_of a ≡ K
   checks_same e = λ i. record { program = same.checked_same e i; bool_class = (same.known_same i).bool_class; is_subtype = S.is_subtype }
@@ -55,7 +64,7 @@ module _ (a : Around) (q : Program ℕ) (names : List (List ℕ)) (how : OnFailu
       ∙ ap quiet (turn_same (main q.main) i)
 
   isolate_same : (b : Budget) → new_isolate (p.program a.program.now) b ≡ new_isolate q b
-  isolate_same b = ap (λ x. new_isolate x b) same.program
+  isolate_same b = ap (λ x. new_isolate x b) same.program ∙ isolate_bare q b
 
   pub turn_produced : (b : Budget) → first_turn (world_in a depth) a.program.now b ≡ option_map (main_turn S q names how depth) (new_isolate q b)
   turn_produced b =

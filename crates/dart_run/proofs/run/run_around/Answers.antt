@@ -6,5 +6,5 @@ use Rattle.dart_run.proofs.run.run_around.Goals as goal
 
 pub returns-in-Ok : goal.returns-in-Ok
 returns-in-Ok c =
-    runs c.args.a c.args.program.now (failing c.args.a.setup.now.annotated) (budget c.args.limits) (option_map shown c.in-Ok.turned) c.requires.stripped c.requires.valid
+    runs c.args.a c.args.program.now (failing c.args.a.setup.now.annotated) (budget c.args.limits) (option_map shown c.in-Ok.turned) c.requires.bare c.requires.valid
     c.requires.first c.in-Ok.ensures

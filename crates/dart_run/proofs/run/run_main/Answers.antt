@@ -2,11 +2,11 @@ use Rattle.std.proofs.Common.{refl}
 use Rattle.dart_run.proofs.Runs.{checked_by}
 use Rattle.dart_run.proofs.run.run_main.Goals as goal
 
-pub run_around-requires-clause-stripped : goal.run_around-requires-clause-stripped
-run_around-requires-clause-stripped c = record {
-  program = c.in_ok-stripped.ensures.program;
-  names_same = c.in_ok-stripped.ensures.names;
+pub run_around-requires-clause-bare : goal.run_around-requires-clause-bare
+run_around-requires-clause-bare c = record {
+  program = c.in_ok-made.ensures.program;
+  names_same = c.in_ok-made.ensures.names;
   known_same = c.in-Some.ensures;
   failing_same = refl;
-  checked_same = checked_by c.in_ok-stripped.stripped c.args.program.now c.annotated_in.result c.annotated_in.ensures.annotated;
+  checked_same = checked_by c.in_ok-made.made c.args.program.now c.annotated_in.result c.annotated_in.ensures.annotated;
 }
