@@ -3,4 +3,5 @@ pub mod Operated
 pub mod Got
 pub mod Listed
 pub mod Written
+pub mod Partly
 pub mod Ordered

@@ -6,28 +6,25 @@ use Rattle.dart_ir.specs.declared.types.TypeRef.{TypeRef}
 use Rattle.dart_ir.specs.declared.value.Value.{Value}
 use Rattle.core_program.specs.declared.form.Core.{Core}
 use Rattle.core_program.specs.View as v
-use Rattle.evaluation.specs.State.{Outcome, answer, ends}
-use Rattle.evaluation.specs.Sequence.{in_order}
+use Rattle.evaluation.specs.Sequence.{on_answer, in_order}
 use Rattle.evaluation.specs.Evaluation.{eval, evals}
 use Rattle.machine_frame.specs.declared.around.Around.{Around}
 use Rattle.machine_frame.specs.declared.run.Frame.TheVariants as f
 use Rattle.machine_frame.specs.declared.run.Body.{Body}
 use Rattle.machine_frame.specs.declared.run.Run.{Run}
-use Rattle.machine_frame.specs.Outside.{world_in}
-use Rattle.machine_frame.specs.Frames.{Below, seen, below_of, resume, resumed, does, mute, forms_of, types_under, IsBeside}
-use Rattle.machine_frame.proofs.Mute.{answered_goes, resumed_keeps}
-use Rattle.machine_loop.specs.Simple.{IsDone}
+use Rattle.machine_frame.specs.Frames.{Below, below_of, does, forms_of, types_under, IsBeside}
+use Rattle.machine_loop.specs.Simple.{IsDone, IsLeft}
+use Rattle.machine_loop.proofs.Partly.{done_resumes, left_resumes}
 
 -- what comes behind a statement that is done
-pub done_goes_on : (a : Around) (old new : Run) (one : Core) (rest : Bor (List Core)) (last : Value) → IsDone a one old new
+pub done_goes_on : (a : Around) (old new : Run) (one : Core) (rest : Bor (List Core)) (last : Value) → IsDone a one old.left old new
     → does a new (λ w. in_order (evals false (forms_of rest.now) w) new.answer) ≡ does a old (λ w. in_order (evals false (forms_of (one ∷ rest.now)) w) last)
-done_goes_on a old new one rest last done =
-    let o = ends (answer new.answer) (seen new) in
-    let go : Below → ℕ → Outcome = λ b d. mute (resume a b old.frames.items (resumed (world_in a d) b (f.Rest rest) o)) in
-    ap (λ fs. mute (resume a (below_of new) fs (resumed (world_in a new.depth) (below_of new) (f.Rest rest) o))) done.frames
-    ∙ ap (λ b. go b new.depth) done.below ∙ ap (go (below_of old)) done.depth
-    ∙ sym (answered_goes a old (resumed (world_in a old.depth) (below_of old) (f.Rest rest)) (resumed_keeps a old.depth (below_of old) (f.Rest rest))
-    (eval (v.core one) (world_in a old.depth) (seen old)) o done.does)
+done_goes_on a old new one rest last done = done_resumes a old new one (f.Rest rest) done
+
+-- what comes behind one of which some is done
+pub left_goes_on : (a : Around) (old new : Run) (one more : Core) (rest : Bor (List Core)) (last : Value) → IsLeft a one more old new
+    → does a new (λ w st. on_answer (in_order (evals false (forms_of rest.now) w)) (eval (v.core more) w st)) ≡ does a old (λ w. in_order (evals false (forms_of (one ∷ rest.now)) w) last)
+left_goes_on a old new one more rest last l = left_resumes a old new one more (f.Rest rest) l
 
 -- nothing but the slots of the body at work, the store, the answer and the steps left differs
 pub below_same : (old new : Run) → IsBeside old new → below_of new ≡ below_of old

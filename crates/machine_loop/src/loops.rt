@@ -7,11 +7,13 @@ ghost use Rattle.evaluation.specs.Evaluation.{part};
 ghost use Rattle.machine_frame.specs.Outside.{setting_of, world_in};
 ghost use Rattle.machine_frame.specs.Frames.{going, does, room, work, loop_of, tested, next_turn, updated};
 
+use crate::entries::enter_part;
 use crate::operators::at_once;
+use crate::statements::simple;
 use core_program::form::Part;
 use dart_ir::value::Value;
 use machine_frame::around::{Around, Fault};
-use machine_frame::moves::{answer, enter_part, wait};
+use machine_frame::moves::{answer, wait};
 use machine_frame::run::{Control, Exit, Frame, Limit, Run, Turn};
 use machine_frame::stacks::push_frame;
 use machine_frame::variables::copy_variables;
@@ -110,12 +112,10 @@ pub fn update_after<'a>(
 {
     match turn.update {
         Part::Missing => begin_turn(run, a, turn),
-        Part::Given(core) => match at_once(run, a, core, run.left) {
-            Some((_, left)) => {
-                run.left = left;
-                begin_turn(run, a, turn)
-            }
-            None => wait(run, a, Frame::Update(turn), core),
+        Part::Given(core) => match simple(run, a, core) {
+            Err(fault) => Err(fault),
+            Ok(None) => begin_turn(run, a, turn),
+            Ok(Some(more)) => wait(run, a, Frame::Update(turn), more),
         },
     }
 }
