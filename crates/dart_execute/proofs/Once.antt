@@ -35,11 +35,10 @@ use Rattle.lower_annotation.specs.Annotated.{annotated}
 use Rattle.lower_program.specs.Views.{library_outer}
 use Rattle.lower_table.specs.Rows.{rows_of, index_of}
 use Rattle.lower_table.specs.Table.{table_around, around_by, meanings_of, source_of}
-use Rattle.core_program.specs.Stripped as stripped
 use Rattle.dart_run.specs.Written.{written}
 use Rattle.evaluation.specs.Prelude.{known}
 use Rattle.machine_frame.specs.Outside.{setting_of}
-use Rattle.machine_turn.specs.Produced.{main_turn}
+use Rattle.machine_turn.specs.Produced.{bare, main_turn}
 use Rattle.scope_load.specs.State.{State}
 use Rattle.scope_program.specs.Classes.{position_of}
 use Rattle.scope_program.specs.Program.{Scoping}
@@ -144,12 +143,12 @@ run_over x y how b made names same run =
       turn = run.turn;
       is_run = record {
         around = run.is_run.around;
-        stripped = record {
-          program = run.is_run.stripped.program ∙ ap stripped.program other;
-          names_same = run.is_run.stripped.names_same ∙ renamed;
-          known_same = run.is_run.stripped.known_same ∙ (λ i. known (other i) (renamed i));
-          failing_same = run.is_run.stripped.failing_same;
-          checked_same = λ (e : how ≡ reports). run.is_run.stripped.checked_same e ∙ other;
+        bare = record {
+          program = run.is_run.bare.program ∙ ap bare other;
+          names_same = run.is_run.bare.names_same ∙ renamed;
+          known_same = run.is_run.bare.known_same ∙ (λ i. known (other i) (renamed i));
+          failing_same = run.is_run.bare.failing_same;
+          checked_same = λ (e : how ≡ reports). run.is_run.bare.checked_same e ∙ other;
         };
         valid = run.is_run.valid;
         first = run.is_run.first;
