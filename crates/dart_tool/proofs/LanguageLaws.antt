@@ -73,7 +73,7 @@ lexical_reason : (text : List ℕ) (fault : LexFault) (why : Option Refusal) →
 lexical_reason text fault (Some why) e reason = (fault, reason, e)
 lexical_reason text fault None e reason = tt
 
--- a lexical fault is a reason, or want of memory
+-- a lexical fault is a reason, or memory ran out
 pub lexical_stop : (text : List ℕ) (fault : LexFault) → (fault ≡ lf.Memory) ⊎ HasReason 0 text fault → Stops (LexisRefuses text) (stop_for (lexical_refusal fault))
 lexical_stop text fault (inl is) = rw is tt
 lexical_stop text fault (inr reason) = lexical_reason text fault (lexical_refusal fault) refl reason
@@ -82,7 +82,7 @@ syntax_reason : (text : List ℕ) (fault : ParseFault) (why : Option Refusal) �
 syntax_reason text fault (Some why) e no_unit = (fault, no_unit, e)
 syntax_reason text fault None e no_unit = tt
 
--- a fault of the parser is a reason, or want of memory
+-- a fault of the parser is a reason, or memory ran out
 pub syntax_stop : (text : List ℕ) (fault : ParseFault) → IsNoUnit 0 text fault → Stops (SyntaxRefuses text) (stop_for (syntax_refusal fault))
 syntax_stop text fault no_unit = syntax_reason text fault (syntax_refusal fault) refl no_unit
 
