@@ -1,0 +1,6 @@
+main() {
+  for (var i = 0; i < 2; i++) {}
+  while (true) { break; }
+  do {} while (false);
+  print('all');
+}

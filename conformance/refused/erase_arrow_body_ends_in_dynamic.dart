@@ -1,0 +1,1 @@
+main() { x = (q) => y is dynamic < c; }

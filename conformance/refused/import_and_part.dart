@@ -1,0 +1,3 @@
+library l; import 'p.dart'; part 'p.dart';
+
+main() {}

@@ -1,0 +1,4 @@
+library l;
+part 'p.dart';
+
+main() {}

@@ -1,0 +1,2 @@
+part of l;
+part 'q.dart';

@@ -1,0 +1,3 @@
+library l; part 'a$b.dart';
+
+main() {}

@@ -1,0 +1,4 @@
+@a
+part of l;
+
+main() {}

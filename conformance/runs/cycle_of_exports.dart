@@ -1,0 +1,3 @@
+import 'b.dart';
+
+main() => print([ofB, ofC, ofD, new Both()]);

@@ -1,0 +1,4 @@
+export 'b.dart';
+export 'd.dart';
+
+var ofD = 'd';

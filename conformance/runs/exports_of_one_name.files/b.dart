@@ -1,0 +1,5 @@
+export 'c.dart';
+export 'd.dart';
+export 'e.dart';
+
+var own = 'own of b';

@@ -1,0 +1,2 @@
+var twice = 'twice of c', own = 'own of c';
+get accessor => 'accessor of c';

@@ -1,0 +1,2 @@
+var twice = 'twice of d';
+set accessor(value) {}

@@ -1,0 +1,1 @@
+var once = 'once of e';

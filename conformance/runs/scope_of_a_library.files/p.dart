@@ -1,0 +1,4 @@
+part of app;
+
+var ofPart = 'part';
+readPart() => [declared, shadowed, handedOn, _private];

@@ -1,0 +1,1 @@
+var declared = 'b', hidden = 'b';

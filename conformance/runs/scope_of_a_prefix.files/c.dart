@@ -1,0 +1,1 @@
+var shadowed = 'c', handedOn = 'c';

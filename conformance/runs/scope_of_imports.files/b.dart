@@ -1,0 +1,5 @@
+var declared = 'b', both = 'b';
+
+class StringBuffer {
+  toString() => 'b';
+}

@@ -1,0 +1,1 @@
+var shown = 'c', notShown = 'c', both = 'c';

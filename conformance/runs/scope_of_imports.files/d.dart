@@ -1,0 +1,3 @@
+export 'e.dart' show exported;
+
+var hidden = 'd';

@@ -1,0 +1,1 @@
+var exported = 'e', notExported = 'e';

@@ -1,0 +1,10 @@
+main() {
+  var s = 'abcdefgh';
+  s + 'ijkl';
+  s + 'abcdefgh';
+  s + 'abcdefg';
+  s.length;
+  'abcdefghijklmnop'.length;
+  'abcdefghijklmno'.length;
+  print('all');
+}
