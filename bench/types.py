@@ -5,7 +5,7 @@ usage: bench/types.py [--runs N] [--tests PROGRAM]
 
 The ladder has 20 diamonds: two classes over the one below, and one over both. The tower compares C<int>, where C<T>
 extends D<P<C<T>, C<T>>>, with 20 nested D<P<.., ..>>. The peer follows every way up and compares every argument again;
-it is timed on smaller ones, since it doubles with each step. Ours are two tests of the crate dart_type, as `rt test` in
+it is timed on smaller ones, since it doubles with each step. Ours are two tests of the crate type_tests, as `rt test` in
 its folder builds them (--tests names another such program). Each figure is the best of N runs, ours net of a run that
 only lists the tests. Ratios hold within one run alone.
 """
@@ -15,7 +15,7 @@ import subprocess
 import sys
 import time
 
-TESTS = os.path.join(os.path.dirname(os.path.abspath(__file__)), '..', 'crates', 'dart_type', 'out', 'dart_type_tests')
+TESTS = os.path.join(os.path.dirname(os.path.abspath(__file__)), '..', 'crates', 'type_tests', 'out', 'type_tests_tests')
 
 
 def below(supers, t, s):
@@ -65,7 +65,7 @@ def main():
     options.add_argument('--tests', default=TESTS)
     given = options.parse_args()
     if not os.path.exists(given.tests):
-        sys.exit(f'{given.tests} is missing: run rt test in crates/dart_type')
+        sys.exit(f'{given.tests} is missing: run rt test in crates/type_tests')
     start = seconds(lambda: run(given.tests, '--list'), given.runs)
     print('| table | plain search, 12 steps | 14 | 16 | dart_type, 20 steps |')
     print('|---|---|---|---|---|')
