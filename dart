@@ -71,7 +71,7 @@ prove_libraries() {
 build() {
     command -v rt >/dev/null || fail "the toolchain's command rt isn't on the path"
     say 'proving and building the program; the first time takes two hours or more'
-    say "unproved, a program runs after a minute or two: cd $root/crates/dart && rt try --data a.dart=FILE -- run a.dart"
+    say "unproved, a program runs after some minutes: cd $root/crates/dart && rt try --data a.dart=FILE -- run a.dart"
     before=$("$root/.ci/sources")
     : >"$log"
     show_progress >/dev/null 9>&- &
