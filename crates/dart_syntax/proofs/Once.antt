@@ -8,7 +8,7 @@ use Rattle.dart_token.specs.declared.token.Token.{Token}
 use Rattle.dart_tree.specs.Unit.{UnitTree}
 use Rattle.dart_tree.specs.UnitTokens.{unit_tokens}
 use Rattle.dart_syntax.specs.Units.{unit_within}
-use Rattle.dart_syntax.specs.Syntax.{Spells, SyntaxReason, left_out_at, syntax_at, too_deep_at, StandsAt, EndsAt, behind, FirstWrong, GoesDeeper, Unfinished, Answers}
+use Rattle.dart_syntax.specs.Syntax.{FormsUnit, SyntaxReason, left_out_at, syntax_at, too_deep_at, StandsAt, EndsAt, behind, FirstWrong, GoesDeeper, Unfinished, Answers}
 use Rattle.dart_syntax.specs.Agreement.{Agrees}
 use Rattle.dart_syntax.proofs.AgreeingUnits.{units_agree}
 
@@ -34,16 +34,16 @@ one_end tokens p q (xs, t, e, is) (ys, u, f, was) = is ∙ ap behind (lasts xs y
 
 -- ---- no unit is refused
 
-fronts : (depth : ℕ) (tokens : List Token) (unit : UnitTree) → Spells depth tokens unit → (i : ℕ) → (unit_within depth).front (take i tokens)
+fronts : (depth : ℕ) (tokens : List Token) (unit : UnitTree) → FormsUnit depth tokens unit → (i : ℕ) → (unit_within depth).front (take i tokens)
 fronts depth tokens unit S i =
     let agrees : Agrees unit_tokens (unit_within depth) = (units_agree depth).unit in
     let whole : (unit_within depth).front tokens = subst (unit_within depth).front (sym S.same) (agrees.whole unit S.fits) in
     agrees.closed (take i tokens) (drop i tokens) (subst (unit_within depth).front (sym (take-append-drop i tokens)) whole)
 
-never_wrong : (depth : ℕ) (tokens : List Token) (unit : UnitTree) (at : ℕ) (place : Place) → Spells depth tokens unit → FirstWrong depth tokens at place → ⊥
+never_wrong : (depth : ℕ) (tokens : List Token) (unit : UnitTree) (at : ℕ) (place : Place) → FormsUnit depth tokens unit → FirstWrong depth tokens at place → ⊥
 never_wrong depth tokens unit at place S (bad, less, stands) = bad.bad less (fronts depth tokens unit S (at + 1))
 
-never_refused : (depth further : ℕ) (tokens : List Token) (unit : UnitTree) (r : SyntaxReason) → Spells depth tokens unit → Answers depth further tokens (Err r) → ⊥
+never_refused : (depth further : ℕ) (tokens : List Token) (unit : UnitTree) (r : SyntaxReason) → FormsUnit depth tokens unit → Answers depth further tokens (Err r) → ⊥
 unfolding Answers
 never_refused depth further tokens unit (left_out_at place feature) S e = let whole = S.whole in absurd cc
 never_refused depth further tokens unit (too_deep_at place) S (none, at, wrong, deeper) = never_wrong depth tokens unit at place S wrong

@@ -75,7 +75,7 @@ left_out tokens = left_out_from false tokens
 -- ---- units
 
 -- the list has the tokens of this unit, which is well formed and no deeper than so many nodes
-pub record Spells (depth : ℕ) (tokens : List Token) (unit : UnitTree) : Type 0 where
+pub record FormsUnit (depth : ℕ) (tokens : List Token) (unit : UnitTree) : Type 0 where
   pub fits : (unit_within depth).Fits unit
   pub same : tokens ≡ unit_tokens unit
   pub whole : left_out tokens ≡ None
@@ -123,14 +123,14 @@ GoesDeeper further tokens at = (unit_within further).front (take (at + 1) tokens
 abbrev pub Unfinished : ℕ → List Token → Type 0
 Unfinished depth tokens =
     FirstBad (unit_within depth).front tokens (length tokens)
-    × ((unit : UnitTree) → Spells depth tokens unit → ⊥)
+    × ((unit : UnitTree) → FormsUnit depth tokens unit → ⊥)
 
--- the answer on a list: the one unit that it spells; what the profile leaves out, before all else;
+-- the answer on a list: the one unit that it forms; what the profile leaves out, before all else;
 -- or the first token that is too deep or wrong, or the end where nothing is wrong but the unit is
 -- unfinished
 unfoldable pub Answers : ℕ → ℕ → List Token → Result UnitTree SyntaxReason → Type 0
 Answers depth further tokens (Ok unit) =
-    Spells depth tokens unit × ((other : UnitTree) → Spells depth tokens other → other ≡ unit)
+    FormsUnit depth tokens unit × ((other : UnitTree) → FormsUnit depth tokens other → other ≡ unit)
 Answers depth further tokens (Err (left_out_at place feature)) =
     left_out tokens ≡ Some (place, feature)
 Answers depth further tokens (Err (too_deep_at place)) =

@@ -7,7 +7,7 @@ use Rattle.dart_words.specs.declared.options.Options.{Options}
 use Rattle.dart_run.specs.declared.written.Written.{Written}
 use Rattle.dart_words.specs.declared.words.Verb.{Verb}
 use Rattle.dart_words.specs.declared.words.Verb.TheVariants as v
-use Rattle.dart_words.specs.Words.{Command, reading}
+use Rattle.dart_words.specs.Words.{Command, command_of}
 use Rattle.dart_tool.specs.declared.outcome.Outcome.{Outcome}
 use Rattle.dart_tool.specs.declared.program.FileRefusal.{FileRefusal}
 use Rattle.dart_tool.specs.declared.run.Ended.{Ended}
@@ -106,7 +106,7 @@ one_command_outcome (Some command) files a b x y = one_verb_outcome command.verb
 
 -- the words and the files have at most one outcome
 pub one_outcome : (words : List (List ℕ)) (files : Files) (a b : Outcome) → IsOutcome words files a → IsOutcome words files b → a ≡ b
-one_outcome words files a b x y = one_command_outcome (reading words) files a b x y
+one_outcome words files a b x y = one_command_outcome (command_of words) files a b x y
 
 some_file_outcome : (name : List ℕ) (files : Files) (options : Options) (content : Option (List ℕ)) → ((out : Outcome) → FileGives name files options content out → ⊥) → ⊥
 some_file_outcome name files options None none = none (refused NotFound name) refl
@@ -132,7 +132,7 @@ some_command_outcome (Some command) files none = some_verb_outcome command.verb 
 
 -- the words and the files aren't without an outcome
 pub some_outcome : (words : List (List ℕ)) (files : Files) → ((out : Outcome) → IsOutcome words files out → ⊥) → ⊥
-some_outcome words files none = some_command_outcome (reading words) files none
+some_outcome words files none = some_command_outcome (command_of words) files none
 
 prefix_written : (IsDue : Outcome → Type 0) (due : Outcome) (before after : Option (List ℕ)) → ((out : Outcome) → IsDue out → out ≡ due) → WrotePrefix before after due.bytes → CutShort IsDue before after
 prefix_written IsDue due before after one (prefix, is, e) = (prefix, e, λ out is_due. subst (λ (o : Outcome). IsPrefix prefix o.bytes) (sym (one out is_due)) is)
@@ -157,7 +157,7 @@ read_answers (Some files) kept verb name content due status before after same is
     subst (λ (c : Option (List ℕ)). Answers (VerbGives verb name files c) status before after) is (answers_from_delivered (VerbGives verb name files content) due status before after given (λ out other. one_verb_outcome verb name files content out due other given) h)
 
 -- what the words ask is what their command asks
-pub words_answer : (told : Option Files) (words : List (List ℕ)) (command : Option Command) (status : Status) (before after : Option (List ℕ)) → reading words ≡ command → IfSome told (λ files. Answers (CommandGives command files) status before after) → IfSome told (λ files. Answers (IsOutcome words files) status before after)
+pub words_answer : (told : Option Files) (words : List (List ℕ)) (command : Option Command) (status : Status) (before after : Option (List ℕ)) → command_of words ≡ command → IfSome told (λ files. Answers (CommandGives command files) status before after) → IfSome told (λ files. Answers (IsOutcome words files) status before after)
 words_answer None words command status before after e h = tt
 words_answer (Some files) words command status before after e h = subst (λ (c : Option Command). Answers (CommandGives c files) status before after) (sym e) h
 
@@ -167,7 +167,7 @@ usage_answers None status before after h = tt
 usage_answers (Some files) status before after h = answers_from_delivered (CommandGives None files) usage_outcome status before after refl (λ out due. due) h
 
 -- type annotations in a file that is run aren't read
-pub outcome_unread : (words : List (List ℕ)) (files others : Files) (name text other : List ℕ) (out : Outcome) → reading words ≡ Some (record { verb = v.Run usual; file = name }) → file_of files name ≡ Some text → file_of others name ≡ Some other → DifferInAnnotationsAlone text other → (IsOutcome words files out) ↔ (IsOutcome words others out)
+pub outcome_unread : (words : List (List ℕ)) (files others : Files) (name text other : List ℕ) (out : Outcome) → command_of words ≡ Some (record { verb = v.Run usual; file = name }) → file_of files name ≡ Some text → file_of others name ≡ Some other → DifferInAnnotationsAlone text other → (IsOutcome words files out) ↔ (IsOutcome words others out)
 outcome_unread words files others name text other out is here there d =
     let gives : (FileGives name files usual (Some text) out) ↔ (FileGives name others usual (Some other) out) = file_unread name files others text other out d in
     let from : (FileGives name files usual (file_of files name) out) ↔ (FileGives name others usual (file_of others name) out) = rw (here, there) gives in

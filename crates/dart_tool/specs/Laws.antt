@@ -5,7 +5,7 @@ use Rattle.dart_edge.specs.Writes.{IsPrefix}
 use Rattle.dart_words.specs.declared.budget.Budget.{Budget}
 use Rattle.dart_words.specs.declared.options.Options.{Options}
 use Rattle.dart_words.specs.declared.words.Verb.TheVariants as v
-use Rattle.dart_words.specs.Words.{reading}
+use Rattle.dart_words.specs.Words.{command_of}
 use Rattle.laws_checked.specs.Written.{WriteUntilReport}
 use Rattle.dart_tool.specs.declared.outcome.Outcome.{Outcome}
 use Rattle.dart_tool.specs.declared.status.Status.{Status}
@@ -31,7 +31,7 @@ within budget checked = record { checked = checked; budget = budget }
 
 -- the words ask for the run of this file
 abbrev pub AskRun : List (List ℕ) → Options → List ℕ → Type 0
-AskRun words options name = reading words ≡ Some (record { verb = v.Run options; file = name })
+AskRun words options name = command_of words ≡ Some (record { verb = v.Run options; file = name })
 
 -- The same status and bytes; or bytes that are the same up to the report of a check that fails.
 pub data FollowsOutcome (production checked : Outcome) : Type 0 where

@@ -10,7 +10,7 @@ use Rattle.dart_run.specs.declared.written.Written.{Written}
 use Rattle.dart_words.specs.declared.options.Options.{Options}
 use Rattle.dart_words.specs.declared.words.Verb.{Verb}
 use Rattle.dart_words.specs.declared.words.Verb.TheVariants as v
-use Rattle.dart_words.specs.Words.{Command, reading}
+use Rattle.dart_words.specs.Words.{Command, command_of}
 use Rattle.turn_text.specs.declared.finish.Finish.{Finish}
 use Rattle.turn_text.specs.declared.finish.Finish.TheVariants as f
 use Rattle.dart_tool.specs.declared.outcome.Outcome.{Outcome}
@@ -149,7 +149,7 @@ CommandGives (Some command) files out =
 
 -- The outcome of the words and the files.
 abbrev pub IsOutcome : List (List ℕ) → Files → Outcome → Type 0
-IsOutcome words files out = CommandGives (reading words) files out
+IsOutcome words files out = CommandGives (command_of words) files out
 
 -- one of the statuses of a call that was cut short
 abbrev pub is_cut_short : Status → Bool

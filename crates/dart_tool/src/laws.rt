@@ -5,7 +5,7 @@ ghost use Rattle.dart_edge.specs.Files.{Files, file_of};
 ghost use Rattle.dart_edge.specs.Memory.{safe_files, safe_written};
 ghost use Rattle.dart_words.specs.declared.options.Options.{Options};
 ghost use Rattle.dart_words.specs.declared.words.Verb.TheVariants as v;
-ghost use Rattle.dart_words.specs.Words.{reading};
+ghost use Rattle.dart_words.specs.Words.{command_of};
 ghost use Rattle.dart_tool.specs.declared.outcome.Outcome.{Outcome};
 ghost use Rattle.dart_tool.specs.Language.{DifferInAnnotationsAlone, Runs, usual};
 ghost use Rattle.dart_tool.specs.Laws.{AnswersSafely, CheckedOutcomesFollow};
@@ -43,7 +43,7 @@ pub fn annotations_are_not_read()
         FileGives name files usual (Some text) out ↔ FileGives name others usual (Some other) out }
     ensures outcome { (words : List (List ℕ)) (files others : Files)
         (name text other : List ℕ) (out : Outcome) →
-        reading words ≡ Some (record { verb = v.Run usual; file = name }) →
+        command_of words ≡ Some (record { verb = v.Run usual; file = name }) →
         file_of files name ≡ Some text → file_of others name ≡ Some other →
         DifferInAnnotationsAlone text other →
         IsOutcome words files out ↔ IsOutcome words others out }

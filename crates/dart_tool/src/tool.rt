@@ -2,7 +2,7 @@
 ghost use Rattle.std.specs.Prelude.{◌≡◌, false, None, Some, IfSome, map};
 ghost use Rattle.std.specs.String.{string_bytes};
 ghost use Rattle.dart_edge.specs.Fault.{Counts};
-ghost use Rattle.dart_words.specs.Words.{KeepsLimits, reading};
+ghost use Rattle.dart_words.specs.Words.{KeepsLimits, command_of};
 ghost use Rattle.dart_tool.specs.Outcome.{CommandGives, IsOutcome, usage_outcome, is_cut_short};
 ghost use Rattle.dart_tool.specs.Tool.{Answers, Delivers, is_read_fault, is_write_fault};
 
@@ -84,10 +84,10 @@ pub fn dart<R: Threads + Wait + Sync, S: Sources, K: Sink, G: Gate>(
     ensures writes { Counts (is_write_fault result) (K.faults sink.old) (K.faults sink.new) }
 
     // Whatever the source tells.
-    ensures usage { reading (map string_bytes words.now) ≡ None
+    ensures usage { command_of (map string_bytes words.now) ≡ None
         → Delivers usage_outcome result (K.written sink.old) (K.written sink.new) }
     ensures unread { result ≡ Status.ReadFault → K.written sink.new ≡ K.written sink.old }
-    ensures usage_only { result ≡ Status.Usage → reading (map string_bytes words.now) ≡ None }
+    ensures usage_only { result ≡ Status.Usage → command_of (map string_bytes words.now) ≡ None }
     ensures files { S.files sources.new ≡ S.files sources.old }
 {
     match command(words) {

@@ -8,7 +8,7 @@ use Rattle.dart_words.specs.declared.words.Verb.{Verb}
 use Rattle.dart_words.specs.declared.words.Verb.TheVariants.{Run}
 use Rattle.dart_words.specs.Budget.{IsWithinLimits, number_of, number_within}
 use Rattle.dart_words.specs.Options.{first_time, options_of, with_checked, with_option}
-use Rattle.dart_words.specs.Words.{Command, KeepsLimits, is_operand, nothing_given, run_reading, with_file}
+use Rattle.dart_words.specs.Words.{Command, KeepsLimits, is_operand, nothing_given, run_command, with_file}
 
 -- a number from 1 to the greatest
 record IsFrom1 (greatest number : ℕ) : Type 0 where
@@ -70,12 +70,12 @@ budget_within given h =
 file_keeps : (verb : Verb) (file : List ℕ) → KeepsLimits verb → IfSome (with_file verb file) (λ c. KeepsLimits c.verb)
 file_keeps verb file h = chosen (λ (c : Command). KeepsLimits c.verb) (is_operand file) (Some (record { verb = verb; file = file })) None h tt
 
-more_keeps : (given : Option Given) (words : List (List ℕ)) → IfSome given AreWithin → ((g : Given) → AreWithin g → IfSome (run_reading g words) (λ c. KeepsLimits c.verb)) → IfSome (option_and_then (λ more. run_reading more words) given) (λ c. KeepsLimits c.verb)
+more_keeps : (given : Option Given) (words : List (List ℕ)) → IfSome given AreWithin → ((g : Given) → AreWithin g → IfSome (run_command g words) (λ c. KeepsLimits c.verb)) → IfSome (option_and_then (λ more. run_command more words) given) (λ c. KeepsLimits c.verb)
 more_keeps None words h keeps = tt
 more_keeps (Some given) words h keeps = keeps given h
 
 -- so are all that are read
-run_keeps : (given : Given) (words : List (List ℕ)) → AreWithin given → IfSome (run_reading given words) (λ c. KeepsLimits c.verb)
+run_keeps : (given : Given) (words : List (List ℕ)) → AreWithin given → IfSome (run_command given words) (λ c. KeepsLimits c.verb)
 run_keeps given [] h = tt
 run_keeps given (file ∷ []) h = file_keeps (Run (options_of given)) file (budget_within given h)
 run_keeps given (option ∷ next ∷ words) h =
@@ -84,6 +84,6 @@ run_keeps given (option ∷ next ∷ words) h =
     (more_keeps (with_option given option next) words (option_within given option next h) (λ more is. run_keeps more words is))
 
 -- what is read of the words behind `run` keeps the limits
-pub asked_keeps : {F : Type 0} (bytes : F → List ℕ) (words : List (List ℕ)) (result : Option (Verb × F)) → MatchOption result (run_reading nothing_given words ≡ None) (λ asked. run_reading nothing_given words ≡ Some (record { verb = asked.0; file = bytes asked.1 })) → IfSome result (λ asked. KeepsLimits asked.0)
+pub asked_keeps : {F : Type 0} (bytes : F → List ℕ) (words : List (List ℕ)) (result : Option (Verb × F)) → MatchOption result (run_command nothing_given words ≡ None) (λ asked. run_command nothing_given words ≡ Some (record { verb = asked.0; file = bytes asked.1 })) → IfSome result (λ asked. KeepsLimits asked.0)
 asked_keeps bytes words None is = tt
 asked_keeps bytes words (Some asked) is = subst (λ (o : Option Command). IfSome o (λ c. KeepsLimits c.verb)) is (run_keeps nothing_given words (record { steps = tt; units = tt }))

@@ -26,24 +26,24 @@ nothing_given = record { checked = false; steps = None; units = None }
 
 -- What the words ask that stand behind `run` and options that gave this: a file alone is run, and two words or more begin with
 -- `--checked`, or with an option and its number.
-abbrev pub run_reading : Given → List (List ℕ) → Option Command
-run_reading given [] = None
-run_reading given (file ∷ []) = with_file (Run (options_of given)) file
-run_reading given (option ∷ next ∷ words) = if bytes_eq option (codes "--checked")
-    then option_and_then (λ more. run_reading more (next ∷ words)) (with_checked given)
-    else option_and_then (λ more. run_reading more words) (with_option given option next)
+abbrev pub run_command : Given → List (List ℕ) → Option Command
+run_command given [] = None
+run_command given (file ∷ []) = with_file (Run (options_of given)) file
+run_command given (option ∷ next ∷ words) = if bytes_eq option (codes "--checked")
+    then option_and_then (λ more. run_command more (next ∷ words)) (with_checked given)
+    else option_and_then (λ more. run_command more words) (with_option given option next)
 
 -- what the words behind `erase` ask
-abbrev pub erase_reading : List (List ℕ) → Option Command
-erase_reading [] = None
-erase_reading (file ∷ []) = with_file Erase file
-erase_reading (file ∷ other ∷ words) = None
+abbrev pub erase_command : List (List ℕ) → Option Command
+erase_command [] = None
+erase_command (file ∷ []) = with_file Erase file
+erase_command (file ∷ other ∷ words) = None
 
 -- the command that the words mean, or none
-abbrev pub reading : List (List ℕ) → Option Command
-reading [] = None
-reading (word ∷ words) = if bytes_eq word (codes "run") then run_reading nothing_given words
-    else if bytes_eq word (codes "erase") then erase_reading words
+abbrev pub command_of : List (List ℕ) → Option Command
+command_of [] = None
+command_of (word ∷ words) = if bytes_eq word (codes "run") then run_command nothing_given words
+    else if bytes_eq word (codes "erase") then erase_command words
     else None
 
 -- where the command is a run, its budget is within the limits

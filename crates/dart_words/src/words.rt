@@ -1,11 +1,11 @@
 // The words of a command line.
 ghost use Rattle.std.specs.Prelude.{◌≡◌, map, MatchOption, IfSome, None, Some};
 ghost use Rattle.std.specs.String.{string_bytes};
-ghost use Rattle.dart_words.specs.Words.{KeepsLimits, erase_reading, is_operand, nothing_given, reading, run_reading};
+ghost use Rattle.dart_words.specs.Words.{KeepsLimits, erase_command, is_operand, nothing_given, command_of, run_command};
 
 use crate::options::{Given, Options};
 
-/// What a command does with its file. Another one is also a case of `reading` in specs/Words.antt.
+/// What a command does with its file. Another one is also a case of `command_of` in specs/Words.antt.
 #[derive(Clone, Copy, Debug, PartialEq, Eq)]
 pub enum Verb {
     /// Runs the program that it is, as these options ask.
@@ -22,8 +22,8 @@ fn is_operand(word: &String) -> bool
 }
 
 // What the words behind `run` ask.
-fn run_reading(words: &[String]) -> Option<(Verb, &String)>
-    ensures { let read = run_reading nothing_given (map string_bytes words.now) in
+fn run_command(words: &[String]) -> Option<(Verb, &String)>
+    ensures { let read = run_command nothing_given (map string_bytes words.now) in
         MatchOption result (read ≡ None)
         (λ asked. read ≡ Some (record { verb = asked.0; file = string_bytes asked.1.now })) }
 {
@@ -49,8 +49,8 @@ fn run_reading(words: &[String]) -> Option<(Verb, &String)>
 }
 
 // What the words behind `erase` ask.
-fn erase_reading(words: &[String]) -> Option<(Verb, &String)>
-    ensures { let read = erase_reading (map string_bytes words.now) in
+fn erase_command(words: &[String]) -> Option<(Verb, &String)>
+    ensures { let read = erase_command (map string_bytes words.now) in
         MatchOption result (read ≡ None)
         (λ asked. read ≡ Some (record { verb = asked.0; file = string_bytes asked.1.now })) }
 {
@@ -64,7 +64,7 @@ fn erase_reading(words: &[String]) -> Option<(Verb, &String)>
 /// file. An option is `--checked`, or `--steps` or `--units` and, as a word of its own, its number of one to ten digits; each is
 /// given once at most.
 pub fn command(words: &[String]) -> Option<(Verb, &String)>
-    ensures read { let read = reading (map string_bytes words.now) in
+    ensures read { let read = command_of (map string_bytes words.now) in
         MatchOption result (read ≡ None)
         (λ asked. read ≡ Some (record { verb = asked.0; file = string_bytes asked.1.now })) }
     ensures limits { IfSome result (λ asked. KeepsLimits asked.0) }
@@ -73,8 +73,8 @@ pub fn command(words: &[String]) -> Option<(Verb, &String)>
         return None;
     };
     match word.as_str() {
-        "run" => run_reading(rest),
-        "erase" => erase_reading(rest),
+        "run" => run_command(rest),
+        "erase" => erase_command(rest),
         _ => None,
     }
 }

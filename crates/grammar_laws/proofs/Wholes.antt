@@ -5,7 +5,7 @@ use Rattle.std.proofs.Math.Seq.{take-append-add}
 use Rattle.grammar_laws.specs.Readers.{Outcome, Reader}
 use Rattle.grammar_laws.specs.Fronts.{Front}
 use Rattle.grammar_laws.specs.Laws.{Ends, Laws}
-use Rattle.grammar_laws.specs.Wholes.{Spells, FirstBad, answer_of, answer, IsAnswer}
+use Rattle.grammar_laws.specs.Wholes.{IsWhole, FirstBad, answer_of, answer, IsAnswer}
 use Rattle.grammar_laws.proofs.Cuts.{gave, same_value, same_rest}
 use Rattle.grammar_laws.proofs.Joints.{one_more, ends}
 
@@ -70,17 +70,17 @@ module _ {Token : Type 0} {class_of : Token → ℕ} {A : Type 0} {read : Reader
       }
 
   -- a well-formed tree is what is read of its tokens
-  pub reads_whole : (ts : List Token) (a : A) → Spells spelling Fits ts a → read ts ≡ Ok (a, [])
+  pub reads_whole : (ts : List Token) (a : A) → IsWhole spelling Fits ts a → read ts ≡ Ok (a, [])
   reads_whole ts a s = ap read (s.1 ∙ sym (append-nil (spelling a))) ∙ laws.complete a [] s.0 refl
 
   -- a list has one tree
-  pub one_tree : (ts : List Token) (a b : A) → Spells spelling Fits ts a → Spells spelling Fits ts b → a ≡ b
+  pub one_tree : (ts : List Token) (a b : A) → IsWhole spelling Fits ts a → IsWhole spelling Fits ts b → a ≡ b
   one_tree ts a b p q = same_value a b [] [] (sym (reads_whole ts a p) ∙ reads_whole ts b q)
 
-  spelled : (ts : List Token) (a : A) → read ts ≡ Ok (a, []) → Spells spelling Fits ts a
+  spelled : (ts : List Token) (a : A) → read ts ≡ Ok (a, []) → IsWhole spelling Fits ts a
   spelled ts a h = let l = laws.sound ts a [] h in (l.0, l.1 ∙ append-nil (spelling a))
 
-  left_over : (ts : List Token) (a : A) (t : Token) (rest : List Token) → read ts ≡ Ok (a, t ∷ rest) → FirstBad front ts (length ts - length (t ∷ rest)) × ((b : A) → Spells spelling Fits ts b → ⊥)
+  left_over : (ts : List Token) (a : A) (t : Token) (rest : List Token) → read ts ≡ Ok (a, t ∷ rest) → FirstBad front ts (length ts - length (t ∷ rest)) × ((b : A) → IsWhole spelling Fits ts b → ⊥)
   left_over ts a t rest h =
       let l = laws.sound ts a (t ∷ rest) h in (
         bad_at ts (spelling a) (t ∷ rest) l.1 (laws.whole a l.0) (ends laws ts a (t ∷ rest) h),
@@ -89,7 +89,7 @@ module _ {Token : Type 0} {class_of : Token → ℕ} {A : Type 0} {read : Reader
             omega (arith, ap length (same_rest a b (t ∷ rest) [] both)),
       )
 
-  stopped : (ts rest : List Token) → read ts ≡ Err rest → FirstBad front ts (length ts - length rest) × ((b : A) → Spells spelling Fits ts b → ⊥)
+  stopped : (ts rest : List Token) → read ts ≡ Err rest → FirstBad front ts (length ts - length rest) × ((b : A) → IsWhole spelling Fits ts b → ⊥)
   stopped ts rest h = let s = laws.fault ts rest h in (bad_at ts s.0 rest s.1 s.2 s.3, λ b spells. let w = reads_whole ts b spells in absurd cc)
 
   answered : (ts : List Token) (o : Outcome Token A) → read ts ≡ o → IsAnswer spelling Fits front ts (answer_of (length ts) o)
@@ -129,11 +129,11 @@ module _ {Token : Type 0} {class_of : Token → ℕ} {A : Type 0} {read : Reader
   no_longer_front ts a t rest h f = let l = laws.sound ts a (t ∷ rest) h in laws.longest ts a t rest h (one_more laws (spelling a) t rest (subst front l.1 f))
 
   -- each beginning of a list that has a tree is a front
-  pub fronts_of : (ts : List Token) (a : A) → Spells spelling Fits ts a → (i : ℕ) → front (take i ts)
+  pub fronts_of : (ts : List Token) (a : A) → IsWhole spelling Fits ts a → (i : ℕ) → front (take i ts)
   fronts_of ts a s i = laws.closed (take i ts) (cut_off i ts) (subst front (sym (joined i ts ∙ s.1)) (laws.whole a s.0))
 
   -- where a list has a tree, no token is bad
-  pub reaches_end : (ts : List Token) (a : A) → Spells spelling Fits ts a → FirstBad front ts (length ts)
+  pub reaches_end : (ts : List Token) (a : A) → IsWhole spelling Fits ts a → FirstBad front ts (length ts)
   reaches_end ts a s = record { within = omega arith; fronts = λ i le. fronts_of ts a s i; bad = λ less. absurd (omega arith) }
 
   -- which tokens are reached, by the first bad one

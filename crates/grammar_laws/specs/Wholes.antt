@@ -4,8 +4,8 @@ use Rattle.grammar_laws.specs.Readers.{Outcome, Reader}
 use Rattle.grammar_laws.specs.Fronts.{Front}
 
 -- the list has the tokens of this well-formed tree
-abbrev pub Spells : {Token A : Type 0} → (A → List Token) → (A → Type 0) → List Token → A → Type 0
-Spells spelling Fits ts a = Fits a × (ts ≡ spelling a)
+abbrev pub IsWhole : {Token A : Type 0} → (A → List Token) → (A → Type 0) → List Token → A → Type 0
+IsWhole spelling Fits ts a = Fits a × (ts ≡ spelling a)
 
 -- the list is a front up to here, and with the next token, if there is one, it is none
 pub record FirstBad {Token : Type 0} (front : Front Token) (ts : List Token) (at : ℕ) : Type 0 where
@@ -24,5 +24,5 @@ answer read ts = answer_of (length ts) (read ts)
 
 -- the only tree of the list, or no tree and the first bad place
 abbrev pub IsAnswer : {Token A : Type 0} → (A → List Token) → (A → Type 0) → Front Token → List Token → Result A ℕ → Type 0
-IsAnswer {A = A} spelling Fits front ts (Ok a) = Spells spelling Fits ts a × ((b : A) → Spells spelling Fits ts b → b ≡ a)
-IsAnswer {A = A} spelling Fits front ts (Err at) = FirstBad front ts at × ((b : A) → Spells spelling Fits ts b → ⊥)
+IsAnswer {A = A} spelling Fits front ts (Ok a) = IsWhole spelling Fits ts a × ((b : A) → IsWhole spelling Fits ts b → b ≡ a)
+IsAnswer {A = A} spelling Fits front ts (Err at) = FirstBad front ts at × ((b : A) → IsWhole spelling Fits ts b → ⊥)

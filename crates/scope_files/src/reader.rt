@@ -7,7 +7,7 @@ ghost use Rattle.scope_load.specs.Found.{found_is, take_failed, SameUnits};
 use crate::text::read_text;
 use dart_edge::source::{SourceFault, Sources};
 use dart_prelude::texts::{CORE, ISOLATE};
-use scope_load::units::{Found, TakeFault, UnitName, Units};
+use scope_load::units::{Found, TakeFault, UnitName, UnitReader};
 use std::alloc::Global;
 use std::str::from_utf8;
 
@@ -39,7 +39,7 @@ fn take_file<S: Sources>(
     }
 }
 
-impl<S: Sources> Units<S> for FileReader {
+impl<S: Sources> UnitReader<S> for FileReader {
     ghost gives = { λ r s number name found. NameGives (S.files s) number name found };
 
     ghost files = { λ r s. S.files s };
@@ -96,7 +96,7 @@ fn take_known<S: Sources>(
     }
 }
 
-impl<S: Sources> Units<S> for RootReader<'_> {
+impl<S: Sources> UnitReader<S> for RootReader<'_> {
     ghost gives = { λ r s number name found. NameGives (known r.root.now r.text.now (S.files s)) number name found };
 
     ghost files = { λ r s. S.files s };

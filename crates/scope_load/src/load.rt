@@ -10,7 +10,7 @@ use crate::follow::enter;
 use crate::judge::{check_directives, left_out};
 use crate::loaded::Loaded;
 use crate::reason::{LoadFault, Reason};
-use crate::units::{Found, TakeFault, UnitName, Units};
+use crate::units::{Found, TakeFault, UnitName, UnitReader};
 use dart_base::bytes::Bytes;
 use dart_base::limit::PROGRAM_WEIGHT;
 use dart_tree::unit::Unit;
@@ -46,7 +46,7 @@ fn add(
 }
 
 // Takes the next unit.
-fn take_next<S, U: Units<S>>(
+fn take_next<S, U: UnitReader<S>>(
     alloc: Global,
     root: &[u8],
     units: &U,
@@ -96,7 +96,7 @@ fn begin(alloc: Global, root: &[u8]) -> Result<Loaded, AllocError>
 /// The units of a program in order of first mention, each taken once in that order, from the file with the name `root`;
 /// or the first reason against them (ECMA-408, 18 Libraries and Scripts). At most 64 files of a weight of 8,000,000 are
 /// taken, beside `dart:core` and `dart:isolate`.
-pub fn load<S, U: Units<S>>(
+pub fn load<S, U: UnitReader<S>>(
     alloc: Global,
     units: &U,
     from: &mut S,

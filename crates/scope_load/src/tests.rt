@@ -9,7 +9,7 @@ use self::directive::{import, name, pieces, place};
 use crate::load::load;
 use crate::loaded::Loaded;
 use crate::reason::{LoadFault, Reason};
-use crate::units::{Found, TakeFault, TextReason, UnitName, Units};
+use crate::units::{Found, TakeFault, TextReason, UnitName, UnitReader};
 use dart_base::place::Place;
 use dart_tree::unit::{Directive, DirectiveKind, Unit};
 use std::alloc::{AllocError, Global};
@@ -130,7 +130,7 @@ impl Files {
 // Reads files in memory.
 struct Reader;
 
-impl Units<Files> for Reader {
+impl UnitReader<Files> for Reader {
     ghost use Rattle.std.specs.Prelude.{⊤, None};
 
     ghost gives = { λ r s number name found. ⊤ };

@@ -96,7 +96,7 @@ pub enum TakeFault {
 }
 
 /// A way to read the units of a program from `S`.
-pub trait Units<S> {
+pub trait UnitReader<S> {
     /// What is read holds this for the unit of this number and name, as far as it is told: where nothing is told, anything.
     ghost gives: { Self → S → ℕ → Name → FoundIs → Type 0 };
 

@@ -3,7 +3,7 @@ use super::Reader;
 use super::directive::{import, place};
 use crate::load::load;
 use crate::reason::{LoadFault, Reason};
-use crate::units::{Found, TakeFault, TextReason, UnitName, Units};
+use crate::units::{Found, TakeFault, TextReason, UnitName, UnitReader};
 use dart_tree::unit::{Directive, Unit};
 use std::alloc::{AllocError, Global};
 use std::test::Fail;
@@ -38,7 +38,7 @@ impl Chain {
     }
 }
 
-impl Units<Chain> for Reader {
+impl UnitReader<Chain> for Reader {
     ghost use Rattle.std.specs.Prelude.{⊤, None};
 
     ghost gives = { λ r s number name found. ⊤ };

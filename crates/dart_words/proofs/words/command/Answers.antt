@@ -6,4 +6,4 @@ use Rattle.dart_words.proofs.words.command.Goals as goal
 pub returns-in-run-clause-limits : goal.returns-in-run-clause-limits
 returns-in-run-clause-limits c =
     let words = c.args.words.now in
-    asked_keeps (λ file. string_bytes file.now) (map string_bytes (take (length words - 1) (drop 1 words))) c.run_reading.result c.run_reading.ensures
+    asked_keeps (λ file. string_bytes file.now) (map string_bytes (take (length words - 1) (drop 1 words))) c.run_command.result c.run_command.ensures

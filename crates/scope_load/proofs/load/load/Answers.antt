@@ -18,24 +18,24 @@ units-init g c =
       room = omega (arith, names);
       taken = omega (arith, units, length-map loaded.units.items unit);
       weight = omega (arith, weight);
-      same = same_self (g.U.Units.gives c.args.units.now c.args.from.now);
+      same = same_self (g.U.UnitReader.gives c.args.units.now c.args.from.now);
       files = refl;
       faults = refl;
-      reached = subst (Reaches (g.U.Units.gives c.args.units.now c.args.from.now) c.args.root.now) (sym c.in_ok-loaded.ensures) begins;
+      reached = subst (Reaches (g.U.UnitReader.gives c.args.units.now c.args.from.now) c.args.root.now) (sym c.in_ok-loaded.ensures) begins;
     }
 
 pub returns-in-Err-clause-answer : goal.returns-in-Err-clause-answer
 returns-in-Err-clause-answer g c =
-    let first = g.U.Units.gives c.args.units.now c.args.from.now in
-    let now = g.U.Units.gives c.args.units.now c.units.from in
+    let first = g.U.UnitReader.gives c.args.units.now c.args.from.now in
+    let now = g.U.UnitReader.gives c.args.units.now c.units.from in
     stops_too now first c.args.root.now (same_back first now c.units.invariant.same) c.in-Err.fault
     (c.in-Err.ensures.turn (reaches_too first now c.args.root.now c.units.invariant.same (state_of c.units.loaded) c.units.invariant.reached))
 
 pub units-preserved : goal.units-preserved
 units-preserved g c =
-    let first = g.U.Units.gives c.args.units.now c.args.from.now in
-    let now = g.U.Units.gives c.args.units.now c.units.from in
-    let next = g.U.Units.gives c.args.units.now c.take_next.new.from in
+    let first = g.U.UnitReader.gives c.args.units.now c.args.from.now in
+    let now = g.U.UnitReader.gives c.args.units.now c.units.from in
+    let next = g.U.UnitReader.gives c.args.units.now c.take_next.new.from in
     record {
       room = c.in-Ok.ensures.room;
       taken = omega (arith, c.in-Ok.ensures.units, c.units-test.true, c.len.ensures, c.len-in-units.ensures, c.units.invariant.room, c.units.loaded.units.ok, c.units.loaded.names.ok);

@@ -10,10 +10,10 @@ invariant-units g l = record {
   room : length l.loaded.names.items ≤ most_units;
   taken : length l.loaded.units.items ≤ most_units;
   weight : l.loaded.weight ≤ length l.loaded.units.items * 2 ^ 32;
-  same : SameUnits (g.U.Units.gives l.units l.initial.from) (g.U.Units.gives l.units l.from);
-  files : g.U.Units.files l.units l.from ≡ g.U.Units.files l.units l.initial.from;
-  faults : g.U.Units.faults l.units l.from ≡ g.U.Units.faults l.units l.initial.from;
-  reached : Reaches (g.U.Units.gives l.units l.initial.from) l.root (state_of l.loaded);
+  same : SameUnits (g.U.UnitReader.gives l.units l.initial.from) (g.U.UnitReader.gives l.units l.from);
+  files : g.U.UnitReader.files l.units l.from ≡ g.U.UnitReader.files l.units l.initial.from;
+  faults : g.U.UnitReader.faults l.units l.from ≡ g.U.UnitReader.faults l.units l.initial.from;
+  reached : Reaches (g.U.UnitReader.gives l.units l.initial.from) l.root (state_of l.loaded);
 }
 
 -- how many units can still be taken

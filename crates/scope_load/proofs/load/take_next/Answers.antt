@@ -15,9 +15,9 @@ returns-in-Ok-Read-clause-turn g c =
     let next : slice_get loaded.names.items c.len-at.result ≡ Some c.in_ok-name.name =
     slice_get-get_or loaded.names.items c.len-at.result c.index.result.now within ∙ ap Some (sym c.index.ensures ∙ sym c.in_ok-name.ensures) in
     let is_at : c.len-at.result ≡ length (map unit loaded.units.items) = omega (arith, c.len-at.ensures, loaded.units.ok, length-map loaded.units.items unit) in
-    turned (g.U.Units.gives c.args.units.now c.args.from.now) c.args.root.now (state_of loaded) c.len-at.result is_at c.in_ok-name.name next
+    turned (g.U.UnitReader.gives c.args.units.now c.args.from.now) c.args.root.now (state_of loaded) c.len-at.result is_at c.in_ok-name.name next
     (unit c.in-Ok-Read.unit) c.in-Ok-Read.weight c.add.result (state_of c.add.new.loaded)
-    (subst (λ found. g.U.Units.gives c.args.units.now c.args.from.now c.len-at.result c.in_ok-name.name (found_is found)) c.in-Ok-Read.field-0-is c.in-Ok-Read.ensures.content)
+    (subst (λ found. g.U.UnitReader.gives c.args.units.now c.args.from.now c.len-at.result c.in_ok-name.name (found_is found)) c.in-Ok-Read.field-0-is c.in-Ok-Read.ensures.content)
     c.add.ensures.judges c.add.ensures.state
 
 pub returns-in-Ok-Absent-clause-turn : goal.returns-in-Ok-Absent-clause-turn
@@ -27,8 +27,8 @@ returns-in-Ok-Absent-clause-turn g c =
     let next : slice_get loaded.names.items c.len-at.result ≡ Some c.in_ok-name.name =
     slice_get-get_or loaded.names.items c.len-at.result c.index.result.now within ∙ ap Some (sym c.index.ensures ∙ sym c.in_ok-name.ensures) in
     let is_at : c.len-at.result ≡ length (map unit loaded.units.items) = omega (arith, c.len-at.ensures, loaded.units.ok, length-map loaded.units.items unit) in
-    refuses (g.U.Units.gives c.args.units.now c.args.from.now) c.args.root.now (state_of loaded) c.len-at.result is_at c.in_ok-name.name next absent NotFound
-    (subst (λ found. g.U.Units.gives c.args.units.now c.args.from.now c.len-at.result c.in_ok-name.name (found_is found)) c.in-Ok-Absent.field-0-is c.in-Ok-Absent.ensures.content) refl
+    refuses (g.U.UnitReader.gives c.args.units.now c.args.from.now) c.args.root.now (state_of loaded) c.len-at.result is_at c.in_ok-name.name next absent NotFound
+    (subst (λ found. g.U.UnitReader.gives c.args.units.now c.args.from.now c.len-at.result c.in_ok-name.name (found_is found)) c.in-Ok-Absent.field-0-is c.in-Ok-Absent.ensures.content) refl
 
 pub returns-in-Ok-Refused-clause-turn : goal.returns-in-Ok-Refused-clause-turn
 returns-in-Ok-Refused-clause-turn g c =
@@ -37,5 +37,5 @@ returns-in-Ok-Refused-clause-turn g c =
     let next : slice_get loaded.names.items c.len-at.result ≡ Some c.in_ok-name.name =
     slice_get-get_or loaded.names.items c.len-at.result c.index.result.now within ∙ ap Some (sym c.index.ensures ∙ sym c.in_ok-name.ensures) in
     let is_at : c.len-at.result ≡ length (map unit loaded.units.items) = omega (arith, c.len-at.ensures, loaded.units.ok, length-map loaded.units.items unit) in
-    refuses (g.U.Units.gives c.args.units.now c.args.from.now) c.args.root.now (state_of loaded) c.len-at.result is_at c.in_ok-name.name next (refused c.in-Ok-Refused.text) (Text c.in-Ok-Refused.text)
-    (subst (λ found. g.U.Units.gives c.args.units.now c.args.from.now c.len-at.result c.in_ok-name.name (found_is found)) c.in-Ok-Refused.field-0-is c.in-Ok-Refused.ensures.content) refl
+    refuses (g.U.UnitReader.gives c.args.units.now c.args.from.now) c.args.root.now (state_of loaded) c.len-at.result is_at c.in_ok-name.name next (refused c.in-Ok-Refused.text) (Text c.in-Ok-Refused.text)
+    (subst (λ found. g.U.UnitReader.gives c.args.units.now c.args.from.now c.len-at.result c.in_ok-name.name (found_is found)) c.in-Ok-Refused.field-0-is c.in-Ok-Refused.ensures.content) refl

@@ -2,7 +2,7 @@ use Rattle.std.proofs.Common.{◌∙◌, ◌≡◌, Some, sym, true, false}
 use Rattle.std.specs.String.{string_bytes}
 use Rattle.dart_words.specs.Options.{with_option}
 use Rattle.dart_words.proofs.Taken.{checked_taken, is_checked, taken}
-use Rattle.dart_words.proofs.words.run_reading.Goals as goal
+use Rattle.dart_words.proofs.words.run_command.Goals as goal
 
 pub loop-rest-preserved-then-eq : goal.loop-rest-preserved-then-eq
 loop-rest-preserved-then-eq c =
