@@ -10,11 +10,12 @@ use dart_ir::types::{TypeRef, Types};
 use dart_tree::identifier::Identifier;
 use dart_tree::types::{TypeArguments, TypeNode};
 use lower_leaf::fault::Want;
+use lower_leaf::kept::kept_type;
 use lower_leaf::meaning::{Constructor, Meaning, Mixin, Outer};
 use lower_leaf::site::{tested, unasked};
 use lower_leaf::state::{Inside, State, declared, depth, entry_of, leave_scope};
 use lower_leaf::surroundings::Surroundings;
-use lower_leaf::types::{Typed, kept_type};
+use lower_leaf::types::Typed;
 use std::alloc::{AllocError, Global};
 use std::test::Fail;
 

@@ -11,9 +11,9 @@ ghost use Rattle.lower_body.specs.Views.{nothing};
 use dart_tree::declaration::{Bound, Superclass, TypeClause, TypeParameter, TypeParameters};
 use dart_tree::types::{TypeArgument, TypeNode};
 use lower_leaf::fault::LowerFault;
+use lower_leaf::kept::kept_type;
 use lower_leaf::state::State;
 use lower_leaf::surroundings::Surroundings;
-use lower_leaf::types::kept_type;
 use std::alloc::Global;
 
 /// A type of a header.

@@ -6,4 +6,5 @@ pub mod list;
 pub mod lower;
 pub mod object;
 pub mod row;
+pub mod selector;
 pub mod text;

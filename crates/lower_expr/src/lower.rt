@@ -1,6 +1,6 @@
 // Expressions, operands, primaries and selectors (ECMA-408, 16 Expressions).
 ghost use Rattle.std.specs.Prelude.{◌≡◌};
-ghost use Rattle.dart_tree.specs.Lists.{cascades_of, selectors_of};
+ghost use Rattle.dart_tree.specs.Lists.{cascades_of};
 ghost use Rattle.lower_operand.specs.Made.{all_forms};
 ghost use Rattle.lower_operand.specs.Operators.{prefix};
 ghost use Rattle.dart_tree.specs.View as view;
@@ -18,11 +18,12 @@ use crate::assign::assigning;
 use crate::list::{arguments, elements, map};
 use crate::object::new_object;
 use crate::row::{super_tails, tails};
+use crate::selector::{selectors, super_selected};
 use crate::text::text;
 use core_program::form::{Core, Leaf, Unary};
 use dart_base::place::Place;
 use dart_ir::number::DeclId;
-use dart_tree::expression::{Cascade, Expr, Operand, Primary, Selector, Value};
+use dart_tree::expression::{Cascade, Expr, Operand, Primary, Value};
 use dart_tree::parameter::Parameters;
 use dart_tree::statement::Body;
 use lower_leaf::fault::LowerFault;
@@ -31,22 +32,19 @@ use lower_leaf::first::{
 };
 use lower_leaf::form::{block, leaf, let_in, unary};
 use lower_leaf::inner::{Inner, literal};
-use lower_leaf::name::text_of;
+use lower_leaf::kept::{kept_arguments, kept_type};
 use lower_leaf::site::tested;
 use lower_leaf::state::{State, fresh};
 use lower_leaf::surroundings::Surroundings;
-use lower_leaf::types::{kept_arguments, kept_type};
 use lower_operand::condition::{choice, negated, null, this_form};
 use lower_operand::literal::{atom_reference, list_form};
 use lower_operand::operator::{Prefix, compound_name, option_compound, prefix_of, super_of};
 use lower_operand::step::{incremented, postfixed};
 use lower_operand::super_operator::super_prefixed;
 use lower_operand::type_test::{cast, type_tested};
-use lower_reference::call::called;
 use lower_reference::plain::{no_operands, send, variable};
 use lower_reference::read::read;
-use lower_reference::reference::{Reference, name_of};
-use lower_reference::select::{callable, member_of};
+use lower_reference::reference::Reference;
 use std::alloc::Global;
 
 // Whether there is a section.
@@ -434,107 +432,5 @@ fn primary<
             value,
             closing: _,
         } => Ok(Reference::Evaluated(expr(alloc, outside, inner, state, value)?)),
-    }
-}
-
-// A selector behind `super` (16.17.3 Super Invocation).
-#[cycle(lower)]
-fn super_selected<
-    S: Surroundings,
-    F: Fn(Global, &S, &mut State, usize, &Parameters, &Body) -> Result<u32, LowerFault>,
->(
-    alloc: Global,
-    outside: &S,
-    inner: &Inner<F>,
-    state: &mut State,
-    selector: &Selector,
-    word: Place,
-) -> Result<Reference, LowerFault>
-    requires { NestsFunction S.around inner.now.limit (F.pre inner.now.function) (F.post inner.now.function) }
-    ensures { Gives (reference (S.around outside.now)) result (seen (S.around outside.now) state.new)
-        (low.super_selected word (view.selector selector.now) (seen (S.around outside.now) state.old)) }
-{
-    match selector {
-        Selector::Member(_, name) => {
-            if !state.inside.has_instance {
-                return Err(LowerFault::BadWord(word));
-            }
-            let name = name_of(alloc, outside, state, text_of(name))?;
-            Ok(Reference::SuperMember(name))
-        }
-        Selector::Index {
-            opening: _,
-            value,
-            closing: _,
-        } => {
-            if !state.inside.has_instance {
-                return Err(LowerFault::BadWord(word));
-            }
-            Ok(Reference::SuperItem(expr(alloc, outside, inner, state, value)?))
-        }
-        Selector::Call(_) => Err(LowerFault::BadConstructor(word)),
-    }
-}
-
-/// Selectors from the left, in a node that begins at the place.
-#[cycle(lower)]
-pub fn selectors<
-    S: Surroundings,
-    F: Fn(Global, &S, &mut State, usize, &Parameters, &Body) -> Result<u32, LowerFault>,
->(
-    alloc: Global,
-    outside: &S,
-    inner: &Inner<F>,
-    state: &mut State,
-    all: &Vec<Selector>,
-    place: Place,
-    first: Reference,
-) -> Result<Reference, LowerFault>
-    requires { NestsFunction S.around inner.now.limit (F.pre inner.now.function) (F.post inner.now.function) }
-    ensures { Gives (reference (S.around outside.now)) result (seen (S.around outside.now) state.new)
-        (low.selectors place (selectors_of all.now.items) (reference (S.around outside.now) first) (seen (S.around outside.now) state.old)) }
-{
-    let mut target = first;
-    for one in all {
-        target = selected(alloc, outside, inner, state, one, place, target)?;
-    }
-    Ok(target)
-}
-
-// A reference with a selector behind it.
-#[cycle(lower)]
-fn selected<
-    S: Surroundings,
-    F: Fn(Global, &S, &mut State, usize, &Parameters, &Body) -> Result<u32, LowerFault>,
->(
-    alloc: Global,
-    outside: &S,
-    inner: &Inner<F>,
-    state: &mut State,
-    selector: &Selector,
-    place: Place,
-    target: Reference,
-) -> Result<Reference, LowerFault>
-    requires { NestsFunction S.around inner.now.limit (F.pre inner.now.function) (F.post inner.now.function) }
-    ensures { Gives (reference (S.around outside.now)) result (seen (S.around outside.now) state.new)
-        (low.selected place (view.selector selector.now) (reference (S.around outside.now) target) (seen (S.around outside.now) state.old)) }
-{
-    match selector {
-        Selector::Member(_, name) => member_of(alloc, outside, state, place, name, target),
-        Selector::Index {
-            opening: _,
-            value,
-            closing: _,
-        } => {
-            let form = read(alloc, outside, state, place, target)?;
-            let index = expr(alloc, outside, inner, state, value)?;
-            Ok(Reference::Item(form, index))
-        }
-        Selector::Call(given) => {
-            let target = callable(outside, state, target)?;
-            let operands = arguments(alloc, outside, inner, state, given)?;
-            let made = called(alloc, outside, state, place, target, operands)?;
-            Ok(Reference::Evaluated(made))
-        }
     }
 }

@@ -5,6 +5,7 @@ pub mod fault;
 pub mod first;
 pub mod form;
 pub mod inner;
+pub mod kept;
 pub mod meaning;
 pub mod name;
 pub mod signature;

@@ -27,12 +27,13 @@ use dart_tree::identifier::{DotName, Identifier};
 use dart_tree::types::{TypeArguments, TypeNode};
 use lower_leaf::fault::{LowerFault, Want};
 use lower_leaf::form::{Operands, new_object};
+use lower_leaf::kept::{alias_place, kept_type};
 use lower_leaf::meaning::{Constructor, Meaning};
 use lower_leaf::name::{find, own_text, place_of, text_of};
 use lower_leaf::site::checked;
 use lower_leaf::state::{Asked, State};
 use lower_leaf::surroundings::Surroundings;
-use lower_leaf::types::{Typed, alias_place, kept_type, last_of, meaning_of, typed_as};
+use lower_leaf::types::{Typed, last_of, meaning_of, typed_as};
 use lower_reference::plain::raised_behind;
 use std::alloc::Global;
 

@@ -27,11 +27,11 @@ use lower_leaf::fault::LowerFault;
 use lower_leaf::first::first_of_type;
 use lower_leaf::form::missing;
 use lower_leaf::inner::Inner;
+use lower_leaf::kept::kept_type;
 use lower_leaf::name::text_of;
 use lower_leaf::site::unasked;
 use lower_leaf::state::{State, declared, depth, leave_scope};
 use lower_leaf::surroundings::Surroundings;
-use lower_leaf::types::kept_type;
 use std::alloc::Global;
 
 /// The handlers and the final part.

@@ -63,8 +63,8 @@ lower::sections-loop-one-preserved g t c = let a = g.S.Surroundings.around c.arg
     (section_made a x c.variable.result c.one-item.result c.loop-one.found.items c.push.new.self.items c.in_ok-target.target c.in_ok-section.field-0
     (seen a c.loop-one.state) (seen a c.selectors.new.state) (seen a c.section.new.state) c.variable.ensures c.in_ok-target.ensures c.in_ok-section.ensures c.in_ok-push.ensures.items)
 
-pub lower::selectors-returns-in_err-target : goal.lower::selectors-returns-in_err-target
-lower::selectors-returns-in_err-target g t c = let a = g.S.Surroundings.around c.args.outside.now in
+pub selector::selectors-returns-in_err-target : goal.selector::selectors-returns-in_err-target
+selector::selectors-returns-in_err-target g t c = let a = g.S.Surroundings.around c.args.outside.now in
     let p = err_from_is_err_and c.from_residual.result c.from_residual.ensures.1 in
     rw (p.1, p.2) (stops (reference a) (reference a) c.in_err-target.field-0.0 (seen a c.selected.new.state) (seen a c.selected.new.state)
     (one_selector c.args.place c.one-item.result (reference a c.loop-one.target) (seen a c.loop-one.state))
@@ -75,8 +75,8 @@ lower::selectors-returns-in_err-target g t c = let a = g.S.Surroundings.around c
     (all_selectors c.args.place c.args.all.now.items (reference a c.args.first) (seen a c.args.state.now))
     c.deref-one-items.ensures.value c.loop-one-test.true c.one-item.is c.loop-one.invariant) c.in_err-target.ensures)
 
-pub lower::selectors-loop-one-preserved : goal.lower::selectors-loop-one-preserved
-lower::selectors-loop-one-preserved g t c = let a = g.S.Surroundings.around c.args.outside.now in
+pub selector::selectors-loop-one-preserved : goal.selector::selectors-loop-one-preserved
+selector::selectors-loop-one-preserved g t c = let a = g.S.Surroundings.around c.args.outside.now in
     step_item (all_selectors c.args.place) (one_selector c.args.place) (selectors_law c.args.place) c.args.all.now.items c.deref-one-items.result.now
     c.loop-one.one-index c.one-item.result (reference a c.loop-one.target) (reference a c.in_ok-target.target) (seen a c.loop-one.state) (seen a c.selected.new.state)
     (all_selectors c.args.place c.args.all.now.items (reference a c.args.first) (seen a c.args.state.now))

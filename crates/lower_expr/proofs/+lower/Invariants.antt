@@ -17,8 +17,8 @@ invariant-lower::sections-loop-one g l = let a = g.S.Surroundings.around l.outsi
     all_sections (r.variable l.place l.x) (drop l.one-index l.all.items) (cores a l.found.items) (seen a l.state)
     ≡ low.sections (r.variable l.place l.x) (cascades_of l.all.items) (seen a l.fn.state)
 
-abbrev pub invariant-lower::selectors-loop-one : goal.invariant-lower::selectors-loop-one
-invariant-lower::selectors-loop-one g l = let a = g.S.Surroundings.around l.outside in
+abbrev pub invariant-selector::selectors-loop-one : goal.invariant-selector::selectors-loop-one
+invariant-selector::selectors-loop-one g l = let a = g.S.Surroundings.around l.outside in
     all_selectors l.place (drop l.one-index l.all.items) (reference a l.target) (seen a l.state)
     ≡ all_selectors l.place l.all.items (reference a l.fn.first) (seen a l.fn.state)
 

@@ -3,7 +3,7 @@ use Rattle.dart_tree.specs.View as view
 use Rattle.dart_tree.proofs.Rows.{view_listed_types}
 use Rattle.translation.specs.Types as y
 use Rattle.lower_leaf.specs.Seen.{seen}
-use Rattle.lower_leaf.proofs.types.+aliases.Goals as goal
+use Rattle.lower_leaf.proofs.kept.+aliases.Goals as goal
 
 pub alias_in_arguments-returns-in-Listed : goal.alias_in_arguments-returns-in-Listed
 alias_in_arguments-returns-in-Listed g t c = c.alias_in_list.ensures
