@@ -16,7 +16,7 @@ use dart_tree::parameter::Parameters;
 use dart_tree::types::ResultType;
 use lower_leaf::fault::Want;
 use lower_leaf::signature::function_type;
-use lower_leaf::state::{Asked, State, copy_type};
+use lower_leaf::state::{Asked, State, clone_type};
 use lower_leaf::surroundings::Surroundings;
 use lower_leaf::types::result_type;
 use std::alloc::Global;
@@ -53,7 +53,7 @@ fn annotated_type<S: Surroundings>(
     }
     match &wanted.of {
         None => Ok(TypeRef::Dynamic),
-        Some(of) => copy_type(alloc, outside, of),
+        Some(of) => clone_type(alloc, outside, of),
     }
 }
 

@@ -14,7 +14,7 @@ use crate::instance::instance;
 use crate::place::Places;
 use dart_ir::types::{TypeRef, Types};
 use lower_leaf::fault::Want;
-use lower_leaf::state::copy_type;
+use lower_leaf::state::clone_type;
 use lower_leaf::surroundings::Surroundings;
 use lower_leaf::types::fitting;
 use std::alloc::Global;
@@ -144,12 +144,12 @@ pub fn alias_type<S: Surroundings>(
 }
 
 /// An equal entry.
-pub fn copy_entry<S: Surroundings>(alloc: Global, outside: &S, one: &Entry) -> Result<Entry, Want>
+pub fn clone_entry<S: Surroundings>(alloc: Global, outside: &S, one: &Entry) -> Result<Entry, Want>
     ensures { IfOk result (λ made. entry (S.around outside.now) made ≡ entry (S.around outside.now) one.now) }
 {
     let of = match &one.of {
         None => None,
-        Some(of) => Some(copy_type(alloc, outside, of)?),
+        Some(of) => Some(clone_type(alloc, outside, of)?),
     };
     Ok(Entry {
         parameters: one.parameters,

@@ -11,7 +11,7 @@ ghost use Rattle.lower_annotation.specs.Written as w;
 use crate::alias::{Alias, items_of};
 use crate::bottom::has_bottom;
 use crate::declaration::library_outer;
-use crate::entry::{Entry, copy_entry};
+use crate::entry::{Entry, clone_entry};
 use crate::place::Places;
 use crate::state::reading;
 use crate::surroundings::Annotated;
@@ -89,7 +89,7 @@ fn next_written<S: Surroundings>(
         (entries (S.around outside.now) all.now) (alias one.entry) (entry (S.around outside.now) before.now)) }
 {
     match &before.of {
-        Some(_) => copy_entry(alloc, outside, before),
+        Some(_) => clone_entry(alloc, outside, before),
         None => {
             let read = alias_read(alloc, outside, places, all, one)?;
             Ok(Entry {
@@ -118,7 +118,7 @@ fn next_waiting<S: Surroundings>(
             of: None,
         });
     }
-    copy_entry(alloc, outside, before)
+    clone_entry(alloc, outside, before)
 }
 
 // An alias behind a round.
@@ -307,7 +307,7 @@ fn unwound<S: Surroundings>(
         (map alias all.now) (alias one.entry) (entry (S.around outside.now) before.now)) }
 {
     match &before.of {
-        Some(_) => copy_entry(alloc, outside, before),
+        Some(_) => clone_entry(alloc, outside, before),
         None => {
             let malformed = names_itself(alloc, outside, places, all, one)?;
             Ok(Entry {

@@ -25,7 +25,7 @@ use dart_tree::statement::{Variable as VariableTree, Variables as VariablesTree}
 use lower_leaf::fault::Want;
 use lower_leaf::meaning::{Meaning, Outer};
 use lower_leaf::name::{place_of, text_of};
-use lower_leaf::state::copy_type;
+use lower_leaf::state::clone_type;
 use lower_leaf::surroundings::Surroundings;
 use std::alloc::Global;
 
@@ -241,7 +241,7 @@ pub fn variables_of<'a, S: Surroundings, N: Numbers>(
 }
 
 // What is asked of the variable at a place.
-fn copy_at<S: Surroundings>(
+fn clone_at<S: Surroundings>(
     alloc: Global,
     outside: &S,
     found: Option<&Option<TypeRef>>,
@@ -252,7 +252,7 @@ fn copy_at<S: Surroundings>(
     match found {
         None => Ok(None),
         Some(None) => Ok(None),
-        Some(Some(of)) => Ok(Some(copy_type(alloc, outside, of)?)),
+        Some(Some(of)) => Ok(Some(clone_type(alloc, outside, of)?)),
     }
 }
 
@@ -267,6 +267,6 @@ pub fn type_at<S: Surroundings>(
 {
     match all.places.place_at(number) {
         None => Ok(None),
-        Some(place) => copy_at(alloc, outside, all.types.get(place as usize)),
+        Some(place) => clone_at(alloc, outside, all.types.get(place as usize)),
     }
 }

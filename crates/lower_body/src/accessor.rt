@@ -24,7 +24,7 @@ use lower_leaf::fault::{LowerFault, Want};
 use lower_leaf::form::{leaf, unary};
 use lower_leaf::name::{find, own_name};
 use lower_leaf::site::{checked, unasked, with_site};
-use lower_leaf::state::{Asked, Inside, State, copy_asked, copy_type};
+use lower_leaf::state::{Asked, Inside, State, clone_asked, clone_type};
 use lower_leaf::surroundings::Surroundings;
 use lower_reference::plain::variable;
 use std::alloc::Global;
@@ -71,7 +71,7 @@ fn annotated_type<S: Surroundings>(
     }
     match &wanted.of {
         None => Ok(TypeRef::Dynamic),
-        Some(of) => copy_type(alloc, outside, of),
+        Some(of) => clone_type(alloc, outside, of),
     }
 }
 
@@ -158,7 +158,7 @@ fn setter_made<S: Surroundings>(
 {
     let place = x.name.place;
     let site = with_site(outside, state, SiteKind::Param, place, unasked())?;
-    let wanted = copy_asked(alloc, outside, &x.wanted)?;
+    let wanted = clone_asked(alloc, outside, &x.wanted)?;
     let value = variable(outside, place, 0);
     let form = checked(
         alloc,

@@ -82,7 +82,7 @@ pub fn add_function<S: Surroundings>(
 }
 
 /// Equal forms in the same order.
-pub fn copy_forms<S: Surroundings>(
+pub fn clone_forms<S: Surroundings>(
     alloc: Global,
     outside: &S,
     forms: &Vec<Core>,
@@ -107,7 +107,7 @@ fn draft_forms<S: Surroundings>(
         return Ok(forms);
     }
     let mut more = forms;
-    let mut all = copy_forms(alloc, outside, values)?;
+    let mut all = clone_forms(alloc, outside, values)?;
     all.append(&mut more)?;
     Ok(all)
 }

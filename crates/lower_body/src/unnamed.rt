@@ -11,7 +11,7 @@ ghost use Rattle.lower_body.specs.Views.{generated, added_inside, all_generated,
 
 use crate::accessor::{accessors_added, added_head};
 use crate::class::ClassMade;
-use crate::finish::{Generated, add_function, copy_forms};
+use crate::finish::{Generated, add_function, clone_forms};
 use crate::inside::{enter_class, leave_class};
 use core_program::form::Core;
 use core_program::program::FunctionKind;
@@ -27,7 +27,7 @@ use lower_leaf::surroundings::Surroundings;
 use std::alloc::Global;
 
 // An equal constructor.
-fn copy_generated<S: Surroundings>(
+fn clone_generated<S: Surroundings>(
     alloc: Global,
     outside: &S,
     of: &Generated,
@@ -42,7 +42,7 @@ fn copy_generated<S: Surroundings>(
 }
 
 // Equal constructors in the same order.
-fn copy_all<S: Surroundings>(
+fn clone_all<S: Surroundings>(
     alloc: Global,
     outside: &S,
     all: &Vec<Generated>,
@@ -51,7 +51,7 @@ fn copy_all<S: Surroundings>(
 {
     let mut found = Vec::new(alloc);
     for one in all {
-        found.push(copy_generated(alloc, outside, one)?)?;
+        found.push(clone_generated(alloc, outside, one)?)?;
     }
     Ok(found)
 }
@@ -79,7 +79,7 @@ fn unnamed_forms<S: Surroundings>(
         ≡ cores (S.around outside.now) values.now.items ++ all_forms (S.around outside.now) forms) }
 {
     let mut more = forms;
-    let mut all = copy_forms(alloc, outside, values)?;
+    let mut all = clone_forms(alloc, outside, values)?;
     all.append(&mut more)?;
     Ok(all)
 }
@@ -131,7 +131,7 @@ fn constructor_added<S: Surroundings>(
         (b.constructor_added x.now.has_constructor (class_made (S.around outside.now) x.now) (seen (S.around outside.now) state.old)) }
 {
     if x.has_constructor {
-        return Ok(copy_all(alloc, outside, &x.constructors)?);
+        return Ok(clone_all(alloc, outside, &x.constructors)?);
     }
     let number = numbered(outside, state)?;
     unnamed_added(alloc, outside, state, x, number)

@@ -29,7 +29,7 @@ use dart_tree::parameter::Parameters;
 use dart_tree::statement::Body;
 use lower_decl::declare::Heading;
 use lower_decl::outermost::{begin, end};
-use lower_function::inside::{copy_inside, leave_inside};
+use lower_function::inside::{clone_inside, leave_inside};
 use lower_function::parameter::{Formals, bind_formals};
 use lower_leaf::fault::{LowerFault, Want};
 use lower_leaf::inner::Inner;
@@ -323,7 +323,7 @@ fn formed_there<
         (bind_formals has_values (formals (S.around outside.now) given.now))
         (forms_of (S.around outside.now) (class_around (S.around outside.now) around.now) of.entry) (seen (S.around outside.now) state.old)) }
 {
-    let there = copy_inside(alloc, outside, &head.inside)?;
+    let there = clone_inside(alloc, outside, &head.inside)?;
     let before = replace(&mut state.inside, there);
     let scope = depth(outside, state);
     let made = formed(

@@ -21,12 +21,12 @@ use dart_tree::declaration::{Member, MemberKind, Modifier};
 use dart_tree::identifier::Identifier;
 use dart_tree::statement::{Variable, Variables};
 use lower_decl::standing::Standing;
-use lower_function::inside::copy_types;
+use lower_function::inside::clone_types;
 use lower_leaf::fault::{LowerFault, Want};
 use lower_leaf::form::unary;
 use lower_leaf::name::own_name;
 use lower_leaf::site::checked;
-use lower_leaf::state::{Asked, State, copy_asked};
+use lower_leaf::state::{Asked, State, clone_asked};
 use lower_leaf::surroundings::Surroundings;
 use lower_leaf::types::{asked_of_kind, is_final};
 use lower_reference::plain::raised_behind;
@@ -64,7 +64,7 @@ pub fn standing_in<S: Surroundings>(
     ensures { IfOk result (λ made. standing (S.around outside.now) made
         ≡ record (cl.without_instance (class_around (S.around outside.now) around.now)) { has_instance = has_instance }) }
 {
-    let arguments = copy_types(alloc, outside, &around.arguments)?;
+    let arguments = clone_types(alloc, outside, &around.arguments)?;
     Ok(Standing {
         class: Some(around.class),
         arguments,
@@ -103,7 +103,7 @@ fn add_field<S: Surroundings>(
         return Err(Want);
     };
     let name = word_of(alloc, name)?;
-    let wanted = copy_asked(alloc, outside, wanted)?;
+    let wanted = clone_asked(alloc, outside, wanted)?;
     found.push(Field {
         name,
         index,
@@ -233,7 +233,7 @@ pub fn write_field<S: Surroundings>(
             Ok(raised_behind(outside, place, forms, error, name, true)?)
         }
         Some(x) => {
-            let wanted = copy_asked(alloc, outside, &x.wanted)?;
+            let wanted = clone_asked(alloc, outside, &x.wanted)?;
             let form = checked(alloc, outside, state, SiteKind::FieldInit, at, wanted, form)?;
             Ok(unary(outside, alloc, place, Unary::FieldWrite(x.index), form)?)
         }

@@ -25,7 +25,7 @@ use lower_decl::outermost::count_functions;
 use lower_decl::standing::inside_of;
 use lower_expr::lower::expr;
 use lower_function::function::numbered;
-use lower_function::inside::{copy_inside, leave_inside};
+use lower_function::inside::{clone_inside, leave_inside};
 use lower_leaf::fault::{LowerFault, Want};
 use lower_leaf::first::{first_of_expr, first_of_variables};
 use lower_leaf::inner::Inner;
@@ -244,7 +244,7 @@ pub fn all_values<
 fn blank<S: Surroundings>(alloc: Global, outside: &S, state: &State) -> Result<State, Want>
     ensures { IfOk result (λ made. seen (S.around outside.now) made ≡ cl.blank (seen (S.around outside.now) state.now)) }
 {
-    let inside = copy_inside(alloc, outside, &state.inside)?;
+    let inside = clone_inside(alloc, outside, &state.inside)?;
     Ok(State {
         outer: state.outer,
         inside,

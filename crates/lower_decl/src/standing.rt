@@ -7,7 +7,7 @@ ghost use Rattle.lower_decl.specs.Standings.{standing};
 
 use dart_ir::number::ClassId;
 use dart_ir::types::Types;
-use lower_function::inside::copy_types;
+use lower_function::inside::clone_types;
 use lower_leaf::fault::Want;
 use lower_leaf::state::{Asked, Inside};
 use lower_leaf::surroundings::Surroundings;
@@ -45,7 +45,7 @@ pub fn inside_of<S: Surroundings>(
     ensures { IfOk result (λ made. inside (S.around outside.now) made
         ≡ d.inside (standing (S.around outside.now) of.now) (asked (S.around outside.now) wanted)) }
 {
-    let arguments = copy_types(alloc, outside, &of.arguments)?;
+    let arguments = clone_types(alloc, outside, &of.arguments)?;
     Ok(Inside {
         class: of.class,
         arguments,

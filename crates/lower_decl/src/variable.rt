@@ -31,7 +31,7 @@ use lower_leaf::form::{given, missing};
 use lower_leaf::inner::Inner;
 use lower_leaf::name::{own_name, text_of};
 use lower_leaf::site::{checked, unasked};
-use lower_leaf::state::{Asked, NumberedStatic, State, copy_asked};
+use lower_leaf::state::{Asked, NumberedStatic, State, clone_asked};
 use lower_leaf::surroundings::Surroundings;
 use lower_leaf::types::{asked_of_kind, is_const, is_final};
 use lower_operand::create::meeting_constant;
@@ -84,7 +84,7 @@ fn static_init<
         Value::Omitted => Ok(missing(outside)),
         Value::Given(_, tree) => {
             let form = expr(alloc, outside, inner, state, tree)?;
-            let asks = copy_asked(alloc, outside, wanted)?;
+            let asks = clone_asked(alloc, outside, wanted)?;
             let at = first_of_expr(tree);
             let form = checked(alloc, outside, state, SiteKind::VarInit, at, asks, form)?;
             Ok(given(outside, alloc, form)?)

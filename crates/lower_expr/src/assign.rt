@@ -28,7 +28,7 @@ use lower_leaf::state::{State, fresh};
 use lower_leaf::surroundings::Surroundings;
 use lower_reference::plain::{one_operand, send, variable};
 use lower_reference::read::read;
-use lower_reference::reference::{Reference, copy_reference};
+use lower_reference::reference::{Reference, clone_reference};
 use lower_reference::write::write;
 use std::alloc::Global;
 
@@ -207,7 +207,7 @@ fn compound_to<
     ensures { Gives (core (S.around outside.now)) result (seen (S.around outside.now) state.new)
         (value_combined place (text (S.around outside.now) name) (low.expr (view.expr value.now)) (reference (S.around outside.now) of) (seen (S.around outside.now) state.old)) }
 {
-    let copy = copy_reference(alloc, outside, &of)?;
+    let copy = clone_reference(alloc, outside, &of)?;
     let old = read(alloc, outside, state, place, copy)?;
     let form = expr(alloc, outside, inner, state, value)?;
     let operands = one_operand(alloc, outside, form)?;

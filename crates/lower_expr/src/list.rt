@@ -30,7 +30,7 @@ use lower_leaf::form::{Operands, block, let_in};
 use lower_leaf::inner::Inner;
 use lower_leaf::name::text_of;
 use lower_leaf::site::checked;
-use lower_leaf::state::{Asked, State, copy_asked, fresh};
+use lower_leaf::state::{Asked, State, clone_asked, fresh};
 use lower_leaf::surroundings::Surroundings;
 use lower_operand::literal::{asked_at, new_map, put};
 use lower_reference::plain::variable;
@@ -244,7 +244,7 @@ fn element<
         (e.element (asked (S.around outside.now) wanted.now) (firsts.first_of_expr (view.expr value.now)) (low.expr (view.expr value.now)) (seen (S.around outside.now) state.old)) }
 {
     let form = expr(alloc, outside, inner, state, value)?;
-    let wanted = copy_asked(alloc, outside, wanted)?;
+    let wanted = clone_asked(alloc, outside, wanted)?;
     let at = first_of_expr(value);
     checked(alloc, outside, state, SiteKind::Element, at, wanted, form)
 }

@@ -9,13 +9,13 @@ ghost use Rattle.lower_function.specs.Made.{entered, with_inside};
 
 use dart_ir::types::{Types, try_clone_types};
 use lower_leaf::fault::Want;
-use lower_leaf::state::{Asked, Inside, State, Target, copy_asked};
+use lower_leaf::state::{Asked, Inside, State, Target, clone_asked};
 use lower_leaf::surroundings::Surroundings;
 use std::alloc::Global;
 use std::mem::replace;
 
 /// Equal type arguments.
-pub fn copy_types<S: Surroundings>(
+pub fn clone_types<S: Surroundings>(
     alloc: Global,
     outside: &S,
     of: &Option<Types>,
@@ -32,11 +32,15 @@ pub fn copy_types<S: Surroundings>(
 }
 
 /// An equal one.
-pub fn copy_inside<S: Surroundings>(alloc: Global, outside: &S, of: &Inside) -> Result<Inside, Want>
+pub fn clone_inside<S: Surroundings>(
+    alloc: Global,
+    outside: &S,
+    of: &Inside,
+) -> Result<Inside, Want>
     ensures { IfOk result (λ made. inside (S.around outside.now) made ≡ inside (S.around outside.now) of.now) }
 {
-    let arguments = copy_types(alloc, outside, &of.arguments)?;
-    let wanted = copy_asked(alloc, outside, &of.result)?;
+    let arguments = clone_types(alloc, outside, &of.arguments)?;
+    let wanted = clone_asked(alloc, outside, &of.result)?;
     Ok(Inside {
         class: of.class,
         arguments,
@@ -57,7 +61,7 @@ pub fn inner_inside<S: Surroundings>(
     ensures { IfOk result (λ made. inside (S.around outside.now) made
         ≡ f.inner (asked (S.around outside.now) wanted) (seen (S.around outside.now) state.now).inside) }
 {
-    let arguments = copy_types(alloc, outside, &state.inside.arguments)?;
+    let arguments = clone_types(alloc, outside, &state.inside.arguments)?;
     Ok(Inside {
         class: state.inside.class,
         arguments,
@@ -78,7 +82,7 @@ pub fn enter_handler<S: Surroundings>(
         (record (seen (S.around outside.now) state.old).inside { in_handler = true }) (seen (S.around outside.now) state.old)) }
     ensures before { IfOk result (λ before. inside (S.around outside.now) before ≡ (seen (S.around outside.now) state.old).inside) }
 {
-    let mut made = copy_inside(alloc, outside, &state.inside)?;
+    let mut made = clone_inside(alloc, outside, &state.inside)?;
     made.in_handler = true;
     Ok(replace(&mut state.inside, made))
 }

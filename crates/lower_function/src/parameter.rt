@@ -23,7 +23,7 @@ use lower_leaf::fault::{LowerFault, Want};
 use lower_leaf::name::{own_name, place_of, text_of};
 use lower_leaf::signature::{asked_of_parameter, parameter_name};
 use lower_leaf::site::with_site;
-use lower_leaf::state::{Asked, State, copy_asked, declared, fresh};
+use lower_leaf::state::{Asked, State, clone_asked, declared, fresh};
 use lower_leaf::surroundings::Surroundings;
 use lower_leaf::types::is_final;
 use std::alloc::Global;
@@ -201,7 +201,7 @@ fn bind<S: Surroundings>(
         (f.bind allowed before shape (formal (S.around outside.now) of.now) (seen (S.around outside.now) state.old)) }
 {
     let name = parameter_name(of.kind);
-    let wanted = copy_asked(alloc, outside, &of.wanted)?;
+    let wanted = clone_asked(alloc, outside, &of.wanted)?;
     let final_one = final_parameter(of.kind);
     let this_dot = this_of(of.kind);
     let x = bind_variable(
@@ -211,7 +211,7 @@ fn bind<S: Surroundings>(
         return Err(LowerFault::TooLarge(place_of(name)));
     }
     let default = default_value(alloc, outside, state, of.value)?;
-    let wanted = copy_asked(alloc, outside, &of.wanted)?;
+    let wanted = clone_asked(alloc, outside, &of.wanted)?;
     bind_tested(alloc, outside, state, name, shape, wanted, x, default)
 }
 

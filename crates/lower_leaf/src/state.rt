@@ -196,13 +196,17 @@ pub fn with_literal<S: Surroundings>(
 
 /// An equal type.
 #[tactic(auto, unfolding(crate::specs::Around::ty))]
-pub fn copy_type<S: Surroundings>(alloc: Global, outside: &S, of: &TypeRef) -> Result<TypeRef, Want>
+pub fn clone_type<S: Surroundings>(
+    alloc: Global,
+    outside: &S,
+    of: &TypeRef,
+) -> Result<TypeRef, Want>
     ensures { IfOk result (λ made. ty (S.around outside.now) made ≡ ty (S.around outside.now) of.now) }
 {
     Ok(of.try_clone(alloc)?)
 }
 
-fn copy_option<S: Surroundings>(
+fn clone_option<S: Surroundings>(
     alloc: Global,
     outside: &S,
     of: &Option<TypeRef>,
@@ -211,19 +215,19 @@ fn copy_option<S: Surroundings>(
 {
     match of {
         None => Ok(None),
-        Some(of) => Ok(Some(copy_type(alloc, outside, of)?)),
+        Some(of) => Ok(Some(clone_type(alloc, outside, of)?)),
     }
 }
 
 /// What is asked for, again.
-pub fn copy_asked<S: Surroundings>(
+pub fn clone_asked<S: Surroundings>(
     alloc: Global,
     outside: &S,
     wanted: &Asked,
 ) -> Result<Asked, Want>
     ensures { IfOk result (λ made. asked (S.around outside.now) made ≡ asked (S.around outside.now) wanted.now) }
 {
-    let of = copy_option(alloc, outside, &wanted.of)?;
+    let of = clone_option(alloc, outside, &wanted.of)?;
     Ok(Asked {
         of,
         annotated: wanted.annotated,

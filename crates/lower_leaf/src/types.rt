@@ -16,7 +16,7 @@ use crate::fault::Want;
 use crate::meaning::Meaning;
 use crate::name::{own_text, text_of};
 use crate::site::unasked;
-use crate::state::{Asked, State, copy_type, entry_of};
+use crate::state::{Asked, State, clone_type, entry_of};
 use crate::surroundings::Surroundings;
 use dart_base::bytes::Bytes;
 use dart_ir::number::{ClassId, DeclId};
@@ -161,7 +161,7 @@ fn argument_of<S: Surroundings>(
 {
     match argument_at(given, index) {
         None => Ok(dynamic_type(outside)),
-        Some(of) => copy_type(alloc, outside, of),
+        Some(of) => clone_type(alloc, outside, of),
     }
 }
 

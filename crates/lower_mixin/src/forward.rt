@@ -27,7 +27,7 @@ use dart_ir::kind::{Shape, SiteKind};
 use dart_ir::number::{ClassId, DeclId, SiteId};
 use dart_ir::types::{FunctionType, NamedType, TypeRef, Types};
 use lower_body::accessor::added_head;
-use lower_body::finish::{Generated, add_function, copy_forms};
+use lower_body::finish::{Generated, add_function, clone_forms};
 use lower_class::field::ClassAround;
 use lower_decl::declare::Heading;
 use lower_function::function::numbered;
@@ -325,7 +325,7 @@ fn forwarder_form<S: Surroundings>(
 {
     let above = outside.superclass(around.class);
     let mut more = forwarding(alloc, outside, place, above, number, bound)?;
-    let mut forms = copy_forms(alloc, outside, values)?;
+    let mut forms = clone_forms(alloc, outside, values)?;
     forms.append(&mut more)?;
     Ok(block(outside, place, forms))
 }

@@ -235,7 +235,7 @@ fn object<S: Surroundings>(
     if !outside.is_bounded(class) {
         return Ok(new_object(outside, place, class, constructor, given, operands));
     }
-    let of = copy_types(alloc, outside, &given)?;
+    let of = clone_types(alloc, outside, &given)?;
     let wanted = Asked {
         of: Some(class_type(outside, class, of)),
         annotated: false,
@@ -245,7 +245,7 @@ fn object<S: Surroundings>(
 }
 
 #[tactic(auto, using(crate::proofs::TypeLaws::copied))]
-fn copy_types<S: Surroundings>(alloc: Global, outside: &S, given: &Types) -> Result<Types, Want>
+fn clone_types<S: Surroundings>(alloc: Global, outside: &S, given: &Types) -> Result<Types, Want>
     ensures { IfOk result (λ made. types (S.around outside.now) made.items ≡ types (S.around outside.now) given.now.items) }
 {
     Ok(try_clone_types(alloc, given)?)
@@ -337,7 +337,7 @@ pub fn created<S: Surroundings>(
         }
         Typed::WellFormed(of) => match &of {
             TypeRef::Class(class, given) => {
-                let given = copy_types(alloc, outside, given)?;
+                let given = clone_types(alloc, outside, given)?;
                 object_by(
                     alloc, outside, state, place, *class, given, name, id, operands,
                 )

@@ -25,7 +25,7 @@ use lower_leaf::form::{Operands, list, new_object, row};
 use lower_leaf::meaning::Constructor;
 use lower_leaf::name::find;
 use lower_leaf::site::unasked;
-use lower_leaf::state::{Asked, State, copy_type, with_literal};
+use lower_leaf::state::{Asked, State, clone_type, with_literal};
 use lower_leaf::surroundings::Surroundings;
 use lower_leaf::types::fitting;
 use lower_reference::plain::{constant, no_operands, send, two_operands};
@@ -249,7 +249,7 @@ pub fn asked_at<S: Surroundings>(
     match argument_at(given, index) {
         None => Ok(unasked()),
         Some(of) => Ok(Asked {
-            of: Some(copy_type(alloc, outside, of)?),
+            of: Some(clone_type(alloc, outside, of)?),
             annotated: false,
         }),
     }

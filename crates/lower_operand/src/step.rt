@@ -21,7 +21,7 @@ use lower_leaf::state::{State, fresh};
 use lower_leaf::surroundings::Surroundings;
 use lower_reference::plain::{constant, one_operand, send, variable};
 use lower_reference::read::read;
-use lower_reference::reference::{Reference, copy_reference};
+use lower_reference::reference::{Reference, clone_reference};
 use lower_reference::write::write;
 use std::alloc::Global;
 
@@ -45,7 +45,7 @@ fn incremented_to<S: Surroundings>(
         (value_combined place (text (S.around outside.now) name) (e.went_one place) (reference (S.around outside.now) of)
         (seen (S.around outside.now) state.old)) }
 {
-    let copy = copy_reference(alloc, outside, &of)?;
+    let copy = clone_reference(alloc, outside, &of)?;
     let old = read(alloc, outside, state, place, copy)?;
     let operands = one_operand(alloc, outside, one(outside, place))?;
     let made = send(outside, place, old, name, operands)?;
@@ -137,7 +137,7 @@ fn stepped_to<S: Surroundings>(
         (value_stepped place (text (S.around outside.now) name) (e.one place) (reference (S.around outside.now) of)
         (seen (S.around outside.now) state.old)) }
 {
-    let copy = copy_reference(alloc, outside, &of)?;
+    let copy = clone_reference(alloc, outside, &of)?;
     let old = read(alloc, outside, state, place, copy)?;
     let x = fresh(outside, state)?;
     let body = stepped_from(alloc, outside, state, place, name, x, of)?;

@@ -100,7 +100,7 @@ pub fn name_of<S: Surroundings>(
     own_name(alloc, outside, state.outer, name)
 }
 
-fn copy_bound<S: Surroundings>(outside: &S, of: &Bound) -> Result<Bound, Want>
+fn clone_bound<S: Surroundings>(outside: &S, of: &Bound) -> Result<Bound, Want>
     ensures { IfOk result (λ made. bound (S.around outside.now) made ≡ bound (S.around outside.now) of.now) }
 {
     match of {
@@ -111,14 +111,14 @@ fn copy_bound<S: Surroundings>(outside: &S, of: &Bound) -> Result<Bound, Want>
 }
 
 #[tactic(auto, unfolding(lower_leaf::specs::Forms::core))]
-fn copy_core<S: Surroundings>(alloc: Global, outside: &S, form: &Core) -> Result<Core, Want>
+fn clone_core<S: Surroundings>(alloc: Global, outside: &S, form: &Core) -> Result<Core, Want>
     ensures { IfOk result (λ made. core (S.around outside.now) made ≡ core (S.around outside.now) form.now) }
 {
     Ok(form.try_clone(alloc)?)
 }
 
 /// An equal one.
-pub fn copy_reference<S: Surroundings>(
+pub fn clone_reference<S: Surroundings>(
     alloc: Global,
     outside: &S,
     of: &Reference,
@@ -126,24 +126,24 @@ pub fn copy_reference<S: Surroundings>(
     ensures { IfOk result (λ made. reference (S.around outside.now) made ≡ reference (S.around outside.now) of.now) }
 {
     match of {
-        Reference::Evaluated(form) => Ok(Reference::Evaluated(copy_core(alloc, outside, form)?)),
+        Reference::Evaluated(form) => Ok(Reference::Evaluated(clone_core(alloc, outside, form)?)),
         Reference::Named(name, bound) => {
             let name = Word {
                 place: name.place,
                 text: Bytes::from_slice(alloc, name.text.as_slice())?,
             };
-            Ok(Reference::Named(name, copy_bound(outside, bound)?))
+            Ok(Reference::Named(name, clone_bound(outside, bound)?))
         }
         Reference::Member(form, name) => {
-            Ok(Reference::Member(copy_core(alloc, outside, form)?, *name))
+            Ok(Reference::Member(clone_core(alloc, outside, form)?, *name))
         }
         Reference::Item(form, index) => {
-            let form = copy_core(alloc, outside, form)?;
-            Ok(Reference::Item(form, copy_core(alloc, outside, index)?))
+            let form = clone_core(alloc, outside, form)?;
+            Ok(Reference::Item(form, clone_core(alloc, outside, index)?))
         }
         Reference::SuperMember(name) => Ok(Reference::SuperMember(*name)),
         Reference::SuperItem(index) => {
-            Ok(Reference::SuperItem(copy_core(alloc, outside, index)?))
+            Ok(Reference::SuperItem(clone_core(alloc, outside, index)?))
         }
     }
 }

@@ -24,7 +24,7 @@ use lower_leaf::form::{binary, block, let_in, unary};
 use lower_leaf::meaning::Meaning;
 use lower_leaf::name::find;
 use lower_leaf::site::checked;
-use lower_leaf::state::{Asked, State, copy_asked, fresh};
+use lower_leaf::state::{Asked, State, clone_asked, fresh};
 use lower_leaf::surroundings::Surroundings;
 use std::alloc::Global;
 
@@ -256,7 +256,7 @@ fn write_bound<S: Surroundings>(
     let text = name.text.as_slice();
     match of {
         Bound::Local(entry) => {
-            let wanted = copy_asked(alloc, outside, &entry.asked)?;
+            let wanted = clone_asked(alloc, outside, &entry.asked)?;
             let of = Unary::Write(entry.variable);
             let is_final = entry.is_final;
             write_if(

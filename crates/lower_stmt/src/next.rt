@@ -25,7 +25,7 @@ use lower_leaf::fault::{LowerFault, Want};
 use lower_leaf::form::{block, given, let_in, missing, turns, unary};
 use lower_leaf::name::{find, place_of};
 use lower_leaf::site::{checked, tested};
-use lower_leaf::state::{Asked, State, copy_asked};
+use lower_leaf::state::{Asked, State, clone_asked};
 use lower_leaf::surroundings::Surroundings;
 use lower_reference::plain::{no_operands, send, variable};
 use lower_reference::reference::{identifier, word_of};
@@ -79,7 +79,7 @@ fn next_variable<S: Surroundings>(
         (s.next_variable place (y.word_of name.now) (asked (S.around outside.now) wanted.now) final_one
         (core (S.around outside.now) form) (seen (S.around outside.now) state.old)) }
 {
-    let asks = copy_asked(alloc, outside, wanted)?;
+    let asks = clone_asked(alloc, outside, wanted)?;
     let form = checked(
         alloc,
         outside,
@@ -89,7 +89,7 @@ fn next_variable<S: Surroundings>(
         asks,
         form,
     )?;
-    let asks = copy_asked(alloc, outside, wanted)?;
+    let asks = clone_asked(alloc, outside, wanted)?;
     variable_form(alloc, outside, state, place, name, asks, final_one, form)
 }
 

@@ -26,7 +26,7 @@ use lower_leaf::first::first_of_expr;
 use lower_leaf::form::{given, missing, returned};
 use lower_leaf::inner::Inner;
 use lower_leaf::site::{checked, tested};
-use lower_leaf::state::{State, copy_asked};
+use lower_leaf::state::{State, clone_asked};
 use lower_leaf::surroundings::Surroundings;
 use std::alloc::Global;
 
@@ -136,7 +136,7 @@ pub fn returning<
         (s.returned place (firsts.first_of_expr (view.expr tree.now)) (low.expr (view.expr tree.now)) (seen (S.around outside.now) state.old)) }
 {
     let form = expr(alloc, outside, inner, state, tree)?;
-    let wanted = copy_asked(alloc, outside, &state.inside.result)?;
+    let wanted = clone_asked(alloc, outside, &state.inside.result)?;
     let at = first_of_expr(tree);
     let form = checked(alloc, outside, state, SiteKind::Return, at, wanted, form)?;
     let value = given(outside, alloc, form)?;

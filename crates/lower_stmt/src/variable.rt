@@ -28,7 +28,7 @@ use lower_leaf::form::unary;
 use lower_leaf::inner::Inner;
 use lower_leaf::name::text_of;
 use lower_leaf::site::checked;
-use lower_leaf::state::{Asked, State, copy_asked, declared};
+use lower_leaf::state::{Asked, State, clone_asked, declared};
 use lower_leaf::surroundings::Surroundings;
 use lower_leaf::types::{asked_of_kind, is_const, is_final};
 use lower_operand::condition::null;
@@ -77,7 +77,7 @@ fn initial<
         Value::Omitted => Ok(null(outside, place)),
         Value::Given(_, tree) => {
             let form = expr(alloc, outside, inner, state, tree)?;
-            let asks = copy_asked(alloc, outside, wanted)?;
+            let asks = clone_asked(alloc, outside, wanted)?;
             let at = first_of_expr(tree);
             checked(alloc, outside, state, SiteKind::VarInit, at, asks, form)
         }
@@ -104,7 +104,7 @@ fn variable<
         (s.variable place (asked (S.around outside.now) wanted.now) final_one (y.text_of name.now) (low.initial place (asked (S.around outside.now) wanted.now) (view.value tree.now)) (seen (S.around outside.now) state.old)) }
 {
     let form = initial(alloc, outside, inner, state, tree, place, wanted)?;
-    let asks = copy_asked(alloc, outside, wanted)?;
+    let asks = clone_asked(alloc, outside, wanted)?;
     variable_form(alloc, outside, state, place, name, asks, final_one, form)
 }
 

@@ -147,7 +147,7 @@ fn link_fault(
     let reason = Reason::BadDirective(link.place);
     match names.get(link.by as usize) {
         None => Ok(LoadFault::Refused(name, reason)),
-        Some(by) => Ok(LoadFault::Refused(by.copy(alloc)?, reason)),
+        Some(by) => Ok(LoadFault::Refused(by.try_clone(alloc)?, reason)),
     }
 }
 

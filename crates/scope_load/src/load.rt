@@ -66,7 +66,7 @@ fn take_next<S, U: UnitReader<S>>(
     ensures weight { OnOk result (loaded.new.weight ≤ length loaded.new.units.items * 2 ^ 32) }
 {
     let at = loaded.units.len();
-    let name = loaded.names[at].copy(alloc)?;
+    let name = loaded.names[at].try_clone(alloc)?;
     match units.take(from, at as u32, &name) {
         Ok(Found::Read(unit, weight)) => add(alloc, root, loaded, name, unit, weight),
         Ok(Found::Absent) => Err(LoadFault::Refused(name, Reason::NotFound)),

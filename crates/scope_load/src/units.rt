@@ -25,7 +25,7 @@ pub enum UnitName {
 
 impl UnitName {
     /// A copy of the name.
-    pub fn copy(&self, alloc: Global) -> Result<UnitName, AllocError>
+    pub fn try_clone(&self, alloc: Global) -> Result<UnitName, AllocError>
         ensures { IfOk result (λ copy. copy ≡ self.now) }
     {
         match self {

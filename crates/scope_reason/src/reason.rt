@@ -34,7 +34,7 @@ fn unit_at(alloc: Global, names: &[UnitName], place: Place) -> Result<UnitName, 
 {
     match names.get(place.unit as usize) {
         None => Ok(UnitName::Core),
-        Some(name) => name.copy(alloc),
+        Some(name) => name.try_clone(alloc),
     }
 }
 

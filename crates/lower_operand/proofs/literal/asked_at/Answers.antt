@@ -8,7 +8,7 @@ returns-in-None g c = let a = g.S.Surroundings.around c.args.outside.now in
     c.unasked.ensures a ∙ sym (asked_none a c.args.index c.args.given.now.items
     (ap (λ (l : List TypeRef). slice_get l c.args.index) (sym c.deref.ensures.value) ∙ c.in-None.ensures))
 
-pub returns-in_ok-copy_type-in-Some : goal.returns-in_ok-copy_type-in-Some
-returns-in_ok-copy_type-in-Some g c = let a = g.S.Surroundings.around c.args.outside.now in
-    ap kept c.in_ok-copy_type-in-Some.ensures ∙ sym (asked_some a c.args.index c.args.given.now.items c.in-Some.of.now
+pub returns-in_ok-clone_type-in-Some : goal.returns-in_ok-clone_type-in-Some
+returns-in_ok-clone_type-in-Some g c = let a = g.S.Surroundings.around c.args.outside.now in
+    ap kept c.in_ok-clone_type-in-Some.ensures ∙ sym (asked_some a c.args.index c.args.given.now.items c.in-Some.of.now
     (ap (λ (l : List TypeRef). slice_get l c.args.index) (sym c.deref.ensures.value) ∙ c.in-Some.ensures))

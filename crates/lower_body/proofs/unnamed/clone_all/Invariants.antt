@@ -1,6 +1,6 @@
 use Rattle.std.proofs.Common.{◌≡◌, map, take}
 use Rattle.lower_body.specs.Views.{generated, all_generated}
-use Rattle.lower_body.proofs.unnamed.copy_all.Given as goal
+use Rattle.lower_body.proofs.unnamed.clone_all.Given as goal
 
 abbrev pub invariant-loop-one : goal.invariant-loop-one
 invariant-loop-one g l = let a = g.S.Surroundings.around l.outside in

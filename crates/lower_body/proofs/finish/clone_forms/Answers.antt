@@ -1,7 +1,7 @@
 use Rattle.std.proofs.Common.{◌∙◌, map, ap}
 use Rattle.core_program.specs.View as v
 use Rattle.lower_body.proofs.Copied.{forms_copied}
-use Rattle.lower_body.proofs.finish.copy_forms.Goals as goal
+use Rattle.lower_body.proofs.finish.clone_forms.Goals as goal
 
 pub returns : goal.returns
 returns g c =
