@@ -12,12 +12,12 @@ use std::marker::Model;
 
 /// A table of classes, whose members are found without a walk up the chain of superclasses. To contracts it is the table.
 #[derive(Drop)]
-pub struct Linked {
+pub struct IndexedClasses {
     classes: Classes,
     index: Index,
 }
 
-impl Model for Linked {
+impl Model for IndexedClasses {
     ghost use Rattle.dart_ir.specs.declared.class.Classes.{Classes};
     ghost use Rattle.class_lookup.specs.Index.{IsIndex};
     ghost use Rattle.dart_ir.specs.contracts.types.FunctionType as function_type;
@@ -33,14 +33,14 @@ impl Model for Linked {
     ghost invariant = { λ linked. IsIndex linked.classes linked.index };
 }
 
-impl Linked {
+impl IndexedClasses {
     /// The table with its index. It takes time and memory linear in the members, times the digits of the longest name.
-    pub fn new(alloc: Global, classes: Classes) -> Result<Linked, AllocError>
+    pub fn new(alloc: Global, classes: Classes) -> Result<IndexedClasses, AllocError>
         requires { IsValid classes }
         ensures { IfOk result (λ linked. linked ≡ classes) }
     {
         let index = Index::of(alloc, &classes)?;
-        Ok(Linked { classes, index })
+        Ok(IndexedClasses { classes, index })
     }
 
     /// The table.

@@ -43,42 +43,42 @@ class_outer a library name =
 -- ---- library and static variables
 
 -- a variable that has a number, what stands before its name, and where names are looked up there
-pub record Variable : Type 0 where
+pub record OuterVariable : Type 0 where
   pub number : ℕ
   pub outer : Outer
   pub kind : y.VariableKind
 
-abbrev pub variable_numbered : Outer → y.VariableKind → Option ℕ → List Variable
+abbrev pub variable_numbered : Outer → y.VariableKind → Option ℕ → List OuterVariable
 variable_numbered outer kind None = []
 variable_numbered outer kind (Some n) = record { number = n; outer = outer; kind = kind } ∷ []
 
-abbrev pub variable_named : Numbers → Outer → y.VariableKind → Identifier → List Variable
+abbrev pub variable_named : Numbers → Outer → y.VariableKind → Identifier → List OuterVariable
 variable_named number outer kind name = variable_numbered outer kind (number (place_of name))
 
-abbrev pub more_named : Numbers → Outer → y.VariableKind → t.MoreVariables → List Variable
+abbrev pub more_named : Numbers → Outer → y.VariableKind → t.MoreVariables → List OuterVariable
 more_named number outer kind t.no_variables = []
 more_named number outer kind (t.variable comma name value rest) =
     variable_named number outer kind name ++ more_named number outer kind rest
 
 -- several names of one declaration
-abbrev pub variables_named : Numbers → Outer → t.Variables → List Variable
+abbrev pub variables_named : Numbers → Outer → t.Variables → List OuterVariable
 variables_named number outer (t.the_variables kind name value more semicolon) =
     variable_named number outer kind name ++ more_named number outer kind more
 
-abbrev pub member_variables : Numbers → Outer → u.MemberKind → List Variable
+abbrev pub member_variables : Numbers → Outer → u.MemberKind → List OuterVariable
 member_variables number outer (u.variables_member x) = variables_named number outer x
 member_variables number outer other = []
 
-abbrev pub static_variables : Numbers → Outer → u.Member → List Variable
+abbrev pub static_variables : Numbers → Outer → u.Member → List OuterVariable
 static_variables number outer x = if is_static x.modifier then member_variables number outer x.kind else []
 
-abbrev pub declared_variables : Numbers → Around → ℕ → u.DeclKind → List Variable
+abbrev pub declared_variables : Numbers → Around → ℕ → u.DeclKind → List OuterVariable
 declared_variables number a library (u.variables_decl x) = variables_named number (library_outer library) x
 declared_variables number a library (u.class_decl x) =
     flat_map (static_variables number (class_outer a library (text_of x.name))) (members_of x.kind)
 declared_variables number a library other = []
 
-abbrev pub variables_of : Numbers → Around → List Placed → List Variable
+abbrev pub variables_of : Numbers → Around → List Placed → List OuterVariable
 variables_of number a all = flat_map (λ (x : Placed). declared_variables number a x.library x.kind) all
 
 -- ---- aliases

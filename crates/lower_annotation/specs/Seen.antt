@@ -16,7 +16,7 @@ use Rattle.lower_annotation.specs.Written as w
 use Rattle.lower_annotation.specs.Written.{with_parameters}
 use Rattle.lower_annotation.specs.declared.place.Places.{Places}
 use Rattle.lower_annotation.specs.declared.declaration.Placed.{Placed}
-use Rattle.lower_annotation.specs.declared.variable.Variable.{Variable}
+use Rattle.lower_annotation.specs.declared.variable.OuterVariable.{OuterVariable}
 use Rattle.lower_annotation.specs.declared.variable.Variables.{Variables}
 use Rattle.lower_annotation.specs.declared.alias.Alias.{Alias}
 use Rattle.lower_annotation.specs.declared.entry.Entry.{Entry}
@@ -28,7 +28,7 @@ place_at x n = get nat_eq x.places n
 abbrev pub placed : Placed → d.Placed
 placed x = record { library = x.library; kind = unit_view.decl_kind x.kind.now }
 
-abbrev pub variable : Variable → d.Variable
+abbrev pub variable : OuterVariable → d.OuterVariable
 variable x = record { number = x.number; outer = x.outer; kind = view.variable_kind x.kind.now }
 
 abbrev pub alias : Alias → d.Alias

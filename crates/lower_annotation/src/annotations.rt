@@ -12,7 +12,7 @@ use crate::place::{Places, places_of};
 use crate::round::written_out;
 use crate::state::reading;
 use crate::surroundings::Annotated;
-use crate::variable::{Variable, Variables, variables_of};
+use crate::variable::{OuterVariable, Variables, variables_of};
 use dart_ir::types::TypeRef;
 use dart_tree::unit::Unit;
 use lower_leaf::fault::Want;
@@ -50,7 +50,7 @@ impl Annotations {
 fn annotation_of<S: Surroundings>(
     alloc: Global,
     outside: &S,
-    one: Variable,
+    one: OuterVariable,
 ) -> Result<Option<TypeRef>, Want>
     ensures { IfOk result (λ made. optional (S.around outside.now) made ≡ annotation_of (S.around outside.now) (variable one.entry)) }
 {
@@ -62,7 +62,7 @@ fn annotation_of<S: Surroundings>(
 fn each_annotation<S: Surroundings>(
     alloc: Global,
     outside: &S,
-    all: &[Variable],
+    all: &[OuterVariable],
 ) -> Result<Vec<Option<TypeRef>>, Want>
     ensures { IfOk result (λ made. map (optional (S.around outside.now)) made.items ≡ map (λ x. annotation_of (S.around outside.now) (variable x)) all.now) }
 {
@@ -73,7 +73,7 @@ fn each_annotation<S: Surroundings>(
     Ok(made)
 }
 
-fn variable_numbers(alloc: Global, all: &[Variable]) -> Result<Vec<u32>, Want>
+fn variable_numbers(alloc: Global, all: &[OuterVariable]) -> Result<Vec<u32>, Want>
     ensures { IfOk result (λ made. made.items ≡ map (λ x. x.number) all.now) }
 {
     let mut made = Vec::new(alloc);
@@ -97,7 +97,7 @@ fn alias_numbers(alloc: Global, all: &[Alias]) -> Result<Vec<u32>, Want>
 fn types_of<S: Surroundings>(
     alloc: Global,
     outside: &S,
-    all: &[Variable],
+    all: &[OuterVariable],
 ) -> Result<Variables, Want>
     ensures { IfOk result (λ made. (n : ℕ) → types_in (S.around outside.now) made n ≡ variable_type (S.around outside.now) (map variable all.now) n) }
 {

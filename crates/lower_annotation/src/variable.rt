@@ -31,7 +31,7 @@ use std::alloc::Global;
 
 /// A variable that has a number, what stands before its name, and where names are looked up there.
 #[derive(Clone, Copy)]
-pub struct Variable<'a> {
+pub struct OuterVariable<'a> {
     pub number: u32,
     pub outer: Outer,
     pub kind: &'a VariableKind,
@@ -96,7 +96,7 @@ fn members_of(kind: &ClassKind) -> &[Member]
 // A variable behind those before it, if it has a number.
 fn add_variable<'a, N: Numbers>(
     numbers: &N,
-    made: &mut Vec<Variable<'a>>,
+    made: &mut Vec<OuterVariable<'a>>,
     outer: Outer,
     kind: &'a VariableKind,
     name: &Identifier,
@@ -107,7 +107,7 @@ fn add_variable<'a, N: Numbers>(
     match numbers.number_at(place_of(name)) {
         None => Ok(()),
         Some(number) => {
-            made.push(Variable {
+            made.push(OuterVariable {
                 number,
                 outer,
                 kind,
@@ -120,7 +120,7 @@ fn add_variable<'a, N: Numbers>(
 // The variables of a declaration behind the first.
 fn add_more<'a, N: Numbers>(
     numbers: &N,
-    made: &mut Vec<Variable<'a>>,
+    made: &mut Vec<OuterVariable<'a>>,
     outer: Outer,
     kind: &'a VariableKind,
     all: &Vec<VariableTree>,
@@ -138,7 +138,7 @@ fn add_more<'a, N: Numbers>(
 #[tactic(auto, using(dart_tree::proofs::Rows::view_the_variables, crate::proofs::Pushed::pushes))]
 fn add_variables<'a, N: Numbers>(
     numbers: &N,
-    made: &mut Vec<Variable<'a>>,
+    made: &mut Vec<OuterVariable<'a>>,
     outer: Outer,
     tree: &'a VariablesTree,
 ) -> Result<(), Want>
@@ -152,7 +152,7 @@ fn add_variables<'a, N: Numbers>(
 // The static variables that a member is, behind those before it.
 fn add_member<'a, N: Numbers>(
     numbers: &N,
-    made: &mut Vec<Variable<'a>>,
+    made: &mut Vec<OuterVariable<'a>>,
     outer: Outer,
     one: &'a Member,
 ) -> Result<(), Want>
@@ -174,7 +174,7 @@ fn add_member<'a, N: Numbers>(
 // The static variables of members, behind those before them.
 fn add_members<'a, N: Numbers>(
     numbers: &N,
-    made: &mut Vec<Variable<'a>>,
+    made: &mut Vec<OuterVariable<'a>>,
     outer: Outer,
     all: &'a [Member],
 ) -> Result<(), Want>
@@ -191,7 +191,7 @@ fn add_members<'a, N: Numbers>(
 fn add_class<'a, S: Surroundings, N: Numbers>(
     outside: &S,
     numbers: &N,
-    made: &mut Vec<Variable<'a>>,
+    made: &mut Vec<OuterVariable<'a>>,
     library: u32,
     class: &'a Class,
 ) -> Result<(), Want>
@@ -206,7 +206,7 @@ fn add_class<'a, S: Surroundings, N: Numbers>(
 fn add_declared<'a, S: Surroundings, N: Numbers>(
     outside: &S,
     numbers: &N,
-    made: &mut Vec<Variable<'a>>,
+    made: &mut Vec<OuterVariable<'a>>,
     one: Placed<'a>,
 ) -> Result<(), Want>
     ensures { OnOk result (map variable made.new.items ≡ map variable made.old.items
@@ -230,7 +230,7 @@ pub fn variables_of<'a, S: Surroundings, N: Numbers>(
     outside: &S,
     numbers: &N,
     all: &[Placed<'a>],
-) -> Result<Vec<Variable<'a>>, Want>
+) -> Result<Vec<OuterVariable<'a>>, Want>
     ensures { IfOk result (λ made. map variable made.items ≡ d.variables_of (N.numbers numbers.now) (S.around outside.now) (map placed all.now)) }
 {
     let mut made = Vec::new(alloc);

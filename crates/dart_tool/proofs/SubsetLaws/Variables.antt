@@ -6,7 +6,7 @@ use Rattle.std.specs.Str.{bytes_eq}
 use Rattle.std.proofs.lemmas.List.{reverse-append, drop_more}
 use Rattle.std.proofs.lemmas.List.Elements.{All-head, All-tail}
 use Rattle.dart_tool.specs.declared.subset.scope.Kind.{Kind as Held}
-use Rattle.dart_tool.specs.declared.subset.scope.Variable.{Variable}
+use Rattle.dart_tool.specs.declared.subset.scope.DeclaredVariable.{DeclaredVariable}
 use Rattle.dart_tool.specs.declared.subset.program.Operand.{Operand}
 use Rattle.dart_tool.specs.declared.subset.program.Sum.{Sum}
 use Rattle.dart_tool.specs.declared.subset.program.DeclaredBy.{DeclaredBy}
@@ -16,7 +16,7 @@ use Rattle.dart_tool.specs.Subset.Names.{Kind, Kind.numeric, Kinds, kind_of, ope
 use Rattle.dart_tool.specs.Subset.Scope.{seen_kind, kinds_of}
 
 -- the last variable of a name gives the name's kind
-pub kind_of-map : (declared : List Variable) (name : List ℕ) → kind_of (map (λ v. (v.name.now, seen_kind v.kind)) declared) name ≡ option_map (λ v. seen_kind v.kind) (find (λ v. bytes_eq v.name.now name) declared)
+pub kind_of-map : (declared : List DeclaredVariable) (name : List ℕ) → kind_of (map (λ v. (v.name.now, seen_kind v.kind)) declared) name ≡ option_map (λ v. seen_kind v.kind) (find (λ v. bytes_eq v.name.now name) declared)
 kind_of-map [] name = refl
 kind_of-map (v ∷ declared) name =
     (elim (bytes_eq v.name.now name) as (λ b. bytes_eq v.name.now name ≡ b → kind_of (map (λ w. (w.name.now, seen_kind w.kind)) (v ∷ declared)) name ≡ option_map (λ w. seen_kind w.kind) (find (λ w. bytes_eq w.name.now name) (v ∷ declared))) [
@@ -25,7 +25,7 @@ kind_of-map (v ∷ declared) name =
     ]) refl
 
 -- one variable more
-pub kinds_of-append : (declared : List Variable) (v : Variable) → kinds_of (declared ++ v ∷ []) ≡ (v.name.now, seen_kind v.kind) ∷ kinds_of declared
+pub kinds_of-append : (declared : List DeclaredVariable) (v : DeclaredVariable) → kinds_of (declared ++ v ∷ []) ≡ (v.name.now, seen_kind v.kind) ∷ kinds_of declared
 kinds_of-append declared v = ap (map (λ w. (w.name.now, seen_kind w.kind))) (reverse-append declared (v ∷ []))
 
 -- a sum has one kind
@@ -51,7 +51,7 @@ Fits-declare kinds by name sum kind statements h = (
 there : (statements : List Statement) (i : ℕ) (read statement : Statement) → i < length statements → read ≡ get_or statements i read → read ≡ statement → drop i statements ≡ statement ∷ drop (i + 1) statements
 there statements i read statement lt at is = drop_more statements i read lt ∙ ap (λ s. s ∷ drop (i + 1) statements) (sym at ∙ is)
 
-pub declare_next : (statements : List Statement) (i : ℕ) (read : Statement) (declared now : List Variable) (v : Variable) (by : DeclaredBy) (name : List ℕ) (sum : Sum) → i < length statements → read ≡ get_or statements i read → read ≡ Declare by name sum → v.name.now ≡ name → now ≡ declared ++ v ∷ [] → SumHas (kinds_of declared) sum.first sum.more (seen_kind v.kind) × (kind_of (kinds_of declared) name ≡ None) × (is_taken name ≡ false) → (Fits [] statements) ↔ (Fits (kinds_of declared) (drop i statements)) → (Fits [] statements) ↔ (Fits (kinds_of now) (drop (i + 1) statements))
+pub declare_next : (statements : List Statement) (i : ℕ) (read : Statement) (declared now : List DeclaredVariable) (v : DeclaredVariable) (by : DeclaredBy) (name : List ℕ) (sum : Sum) → i < length statements → read ≡ get_or statements i read → read ≡ Declare by name sum → v.name.now ≡ name → now ≡ declared ++ v ∷ [] → SumHas (kinds_of declared) sum.first sum.more (seen_kind v.kind) × (kind_of (kinds_of declared) name ≡ None) × (is_taken name ≡ false) → (Fits [] statements) ↔ (Fits (kinds_of declared) (drop i statements)) → (Fits [] statements) ↔ (Fits (kinds_of now) (drop (i + 1) statements))
 declare_next statements i read declared now v by name sum lt at is named pushed h so_far =
     let rest = drop (i + 1) statements in
     let here = there statements i read (Declare by name sum) lt at is in

@@ -10,13 +10,13 @@ use Rattle.dart_tool.specs.declared.subset.program.Statement.{Statement}
 use Rattle.dart_tool.specs.declared.subset.program.Statement.TheVariants.{Declare, Print}
 use Rattle.dart_tool.specs.declared.subset.value.Value.{Value}
 use Rattle.dart_tool.specs.declared.subset.value.Value.TheVariants.{Number, Text}
-use Rattle.dart_tool.specs.declared.subset.value.Variable.{Variable}
+use Rattle.dart_tool.specs.declared.subset.value.BoundVariable.{BoundVariable}
 use Rattle.dart_tool.specs.declared.run.Ending.TheVariants.{Returned, IntegerLimit}
 use Rattle.dart_tool.specs.Run.{Run}
 
 -- the variables declared so far, in order
 abbrev pub Variables : Type 0
-Variables = List Variable
+Variables = List BoundVariable
 
 -- the value that was declared under a name
 abbrev pub found_under : Variables → List ℕ → Option Value

@@ -6,13 +6,13 @@ ghost use Rattle.dart_tool.specs.Subset.Model.{found_under, value_named, operand
 
 use crate::run::{Ending, Printed};
 use crate::subset::program::{Operand, Statement, Sum};
-use crate::subset::value::{Value, Variable};
+use crate::subset::value::{BoundVariable, Value};
 use dart_base::bytes::Bytes;
 use dart_base::limit::GREATEST_INTEGER;
 use std::alloc::{AllocError, Global};
 
 // The value that was declared under the name.
-fn found_under<'a>(variables: &'a [Variable], name: &[u8]) -> Option<&'a Value>
+fn found_under<'a>(variables: &'a [BoundVariable], name: &[u8]) -> Option<&'a Value>
     ensures { option_copied result ≡ found_under variables.now name.now }
 {
     match variables
@@ -24,7 +24,7 @@ fn found_under<'a>(variables: &'a [Variable], name: &[u8]) -> Option<&'a Value>
     }
 }
 
-fn value_named(alloc: Global, variables: &[Variable], name: &[u8]) -> Result<Value, AllocError>
+fn value_named(alloc: Global, variables: &[BoundVariable], name: &[u8]) -> Result<Value, AllocError>
     ensures { IfOk result (λ value. value ≡ value_named variables.now name.now) }
 {
     match found_under(variables, name) {
@@ -35,7 +35,7 @@ fn value_named(alloc: Global, variables: &[Variable], name: &[u8]) -> Result<Val
 
 fn operand_value(
     alloc: Global,
-    variables: &[Variable],
+    variables: &[BoundVariable],
     operand: &Operand,
 ) -> Result<Value, AllocError>
     ensures { IfOk result (λ value. value ≡ operand_value variables.now operand.now) }
@@ -48,7 +48,11 @@ fn operand_value(
 }
 
 // The sum of numbers, unless it passes the greatest number.
-fn total_of(alloc: Global, variables: &[Variable], sum: &Sum) -> Result<Option<u128>, AllocError>
+fn total_of(
+    alloc: Global,
+    variables: &[BoundVariable],
+    sum: &Sum,
+) -> Result<Option<u128>, AllocError>
     ensures { let total = total_of variables.now sum.now.first sum.now.more in
         IfOk result (λ found. SomeIff found (total ≤ GREATEST_INTEGER) total) }
 {
@@ -68,7 +72,11 @@ fn total_of(alloc: Global, variables: &[Variable], sum: &Sum) -> Result<Option<u
 }
 
 // What a sum stands for, unless it passes the greatest number.
-fn sum_value(alloc: Global, variables: &[Variable], sum: &Sum) -> Result<Option<Value>, AllocError>
+fn sum_value(
+    alloc: Global,
+    variables: &[BoundVariable],
+    sum: &Sum,
+) -> Result<Option<Value>, AllocError>
     ensures { IfOk result (λ found. found ≡ sum_value variables.now sum.now.first sum.now.more) }
 {
     if sum.more.as_slice().is_empty() {
@@ -105,7 +113,7 @@ pub fn run(alloc: Global, statements: &[Statement]) -> Result<Printed, AllocErro
         match statement {
             Statement::Declare { name, .. } => {
                 let name = Bytes::from_slice(alloc, name.as_slice())?;
-                variables.push(Variable { name, value })?;
+                variables.push(BoundVariable { name, value })?;
             }
             Statement::Print(_) => push_line(alloc, &mut bytes, &value)?,
         }

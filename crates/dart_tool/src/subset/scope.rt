@@ -19,7 +19,7 @@ enum Kind {
 
 // A name that is declared, and what it holds.
 #[derive(Clone, Copy)]
-struct Variable<'a> {
+struct DeclaredVariable<'a> {
     name: &'a [u8],
     kind: Kind,
 }
@@ -41,13 +41,16 @@ fn is_taken(name: &[u8]) -> bool
 }
 
 // The variable of a name.
-fn find_variable<'a, 'b>(declared: &'b [Variable<'a>], name: &[u8]) -> Option<&'b Variable<'a>>
+fn find_variable<'a, 'b>(
+    declared: &'b [DeclaredVariable<'a>],
+    name: &[u8],
+) -> Option<&'b DeclaredVariable<'a>>
     ensures { option_copied result ≡ find (λ v. bytes_eq v.name.now name.now) (reverse declared.now) }
 {
     declared.iter().rev().find(|variable| variable.name == name)
 }
 
-fn kind_of(declared: &[Variable], name: &[u8]) -> Option<Kind>
+fn kind_of(declared: &[DeclaredVariable], name: &[u8]) -> Option<Kind>
     ensures { option_map seen_kind result ≡ kind_of (kinds_of declared.now) name.now }
 {
     match find_variable(declared, name) {
@@ -56,7 +59,7 @@ fn kind_of(declared: &[Variable], name: &[u8]) -> Option<Kind>
     }
 }
 
-fn operand_kind(declared: &[Variable], operand: &Operand) -> Option<Kind>
+fn operand_kind(declared: &[DeclaredVariable], operand: &Operand) -> Option<Kind>
     ensures { option_map seen_kind result ≡ operand_kind (kinds_of declared.now) operand.now }
 {
     match operand {
@@ -66,20 +69,20 @@ fn operand_kind(declared: &[Variable], operand: &Operand) -> Option<Kind>
     }
 }
 
-fn is_number(declared: &[Variable], operand: &Operand) -> bool
+fn is_number(declared: &[DeclaredVariable], operand: &Operand) -> bool
     ensures { IsTrue result ↔ (operand_kind (kinds_of declared.now) operand.now ≡ Some numeric) }
 {
     matches!(operand_kind(declared, operand), Some(Kind::Numeric))
 }
 
-fn are_numbers(declared: &[Variable], operands: &[Operand]) -> bool
+fn are_numbers(declared: &[DeclaredVariable], operands: &[Operand]) -> bool
     ensures { IsTrue result ↔ All (λ p. operand_kind (kinds_of declared.now) p ≡ Some numeric) operands.now }
 {
     operands.iter().all(|operand| is_number(declared, operand))
 }
 
 // What a sum stands for, where it stands for something.
-fn sum_kind(declared: &[Variable], sum: &Sum) -> Option<Kind>
+fn sum_kind(declared: &[DeclaredVariable], sum: &Sum) -> Option<Kind>
     ensures { MatchOption result
         ((kind : DeclaredKind) → SumHas (kinds_of declared.now) sum.now.first sum.now.more kind → ⊥)
         (λ kind. SumHas (kinds_of declared.now) sum.now.first sum.now.more (seen_kind kind)) }
@@ -96,7 +99,7 @@ fn sum_kind(declared: &[Variable], sum: &Sum) -> Option<Kind>
 }
 
 // What a variable that may be declared holds.
-fn variable_kind(declared: &[Variable], name: &[u8], value: &Sum) -> Option<Kind>
+fn variable_kind(declared: &[DeclaredVariable], name: &[u8], value: &Sum) -> Option<Kind>
     ensures { MatchOption result
         ((kind : DeclaredKind) → SumHas (kinds_of declared.now) value.now.first value.now.more kind → kind_of (kinds_of declared.now) name.now ≡ None → is_taken name.now ≡ false → ⊥)
         (λ kind. SumHas (kinds_of declared.now) value.now.first value.now.more (seen_kind kind) × (kind_of (kinds_of declared.now) name.now ≡ None) × (is_taken name.now ≡ false)) }
@@ -119,7 +122,7 @@ pub fn fits(alloc: Global, statements: &[Statement]) -> Result<bool, AllocError>
                 let Some(kind) = variable_kind(&declared, name, value) else {
                     return Ok(false);
                 };
-                declared.push(Variable { name, kind })?;
+                declared.push(DeclaredVariable { name, kind })?;
             }
             Statement::Print(sum) => {
                 if sum_kind(&declared, sum).is_none() {

@@ -47,7 +47,7 @@ impl Value {
 
 /// A variable, once it is declared.
 #[derive(Drop)]
-pub struct Variable {
+pub struct BoundVariable {
     pub name: Bytes,
     pub value: Value,
 }

@@ -10,7 +10,7 @@ pub returns : goal.returns
 returns g c = λ n.
     let a = g.S.Surroundings.around c.args.outside.now in
     let all = c.args.all.now in
-    let number : d.Variable → ℕ = λ x. x.number in
+    let number : d.OuterVariable → ℕ = λ x. x.number in
     let types = c.in_ok-types.types.items in
     let place : place_at c.in_ok-places.places n ≡ place_in (map number (map variable all)) n =
     c.in_ok-places.ensures n ∙ ap (λ l. place_in l n) (c.deref.ensures.value ∙ c.in_ok-numbers.ensures ∙ twice number variable all) in

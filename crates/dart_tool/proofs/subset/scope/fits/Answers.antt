@@ -1,5 +1,5 @@
 use Rattle.std.proofs.Common.{◌≡◌, ◌∷◌, ◌++◌, [], arith}
-use Rattle.dart_tool.specs.declared.subset.scope.Variable.{Variable}
+use Rattle.dart_tool.specs.declared.subset.scope.DeclaredVariable.{DeclaredVariable}
 use Rattle.dart_tool.specs.Subset.Scope.{kinds_of}
 use Rattle.dart_tool.proofs.SubsetLaws.Variables.{declare_next, print_found}
 use Rattle.dart_tool.proofs.subset.scope.fits.Goals as goal
@@ -13,7 +13,7 @@ loop-statement-preserved c =
     let declared = c.loop-statement.declared.items in
     elim c.match-statement.branch [
       | in-Declare+in-Some+in_ok-push-in-Declare w ↦
-          let v : Variable = record { name = w.as_slice-name.result; kind = w.in-Some.kind } in
+          let v : DeclaredVariable = record { name = w.as_slice-name.result; kind = w.in-Some.kind } in
           let pushed : c.match-statement.declared.items ≡ declared ++ v ∷ [] = cc (w.in_ok-push-in-Declare.ensures.items) in
           declare_next statements i read declared c.match-statement.declared.items v w.in-Declare.by w.in-Declare.name w.in-Declare.value (omega arith) c.statement-item.is w.in-Declare.is w.as_slice-name.ensures pushed (rw w.deref.ensures.value at (rw w.as_slice-name.ensures at w.in-Some.ensures)) c.loop-statement.invariant
       | in-Print+else-is_none w ↦
