@@ -1,3 +1,4 @@
 pub mod Given
 pub mod Around
+-- means of proof
 pub mod Homes

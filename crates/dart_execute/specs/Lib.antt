@@ -1,3 +1,4 @@
 pub mod Execution
 pub mod Laws
+-- means of proof
 pub mod Joined

@@ -1,5 +1,6 @@
 -- Parameters are bound alike once annotations and columns are forgotten.
 use Rattle.std.proofs.Common.{◌≡◌, refl, ap, ◌∙◌, ℕ, ◌+◌, [], ◌∷◌, ◌++◌, length, nat_eq, Option, None, Some, Bool, true, false, pos, neg_ℤ}
+use Rattle.dart_base.specs.declared.limit.TheConstants.{PARAMETERS}
 use Rattle.dart_base.specs.declared.place.Place.{Place}
 use Rattle.dart_tree.specs.declared.parameter.Brackets.{Brackets}
 use Rattle.dart_tree.specs.declared.parameter.ThisDot.{ThisDot}
@@ -79,7 +80,7 @@ bind_kind_goes b outer n shape x value s = on_ends _ _ _ _ _ _
     ((λ i. f.bind_variable b (this_same x i) (word_of (parameter_name (lined.parameter_kind (erased.parameter_kind x)))) (asked_of_parameter (k.state outer) (lined.parameter_kind (erased.parameter_kind x)))
     (f.final_parameter (lined.parameter_kind (erased.parameter_kind x))) (k.state s)) ∙
     bind_variable_goes b (f.this_of x) _ (word_of (parameter_name x)) _ (asked_of_parameter outer x) _ (f.final_parameter x) (name_word x) (asked_parameter (k.state outer) outer x) (final_same x) s)
-    (λ y s. counted_if_goes (λ x. x) (nat_eq n 255) _ (word_of (parameter_name x)).place
+    (λ y s. counted_if_goes (λ x. x) (nat_eq n PARAMETERS) _ (word_of (parameter_name x)).place
     (λ s. on (f.default_value (lined.value (erased.value value)) s) (f.bind_tested (word_of (parameter_name (lined.parameter_kind (erased.parameter_kind x)))) shape (asked_of_parameter (k.state outer) (lined.parameter_kind (erased.parameter_kind x))) y))
     (λ s. on (f.default_value value s) (f.bind_tested (word_of (parameter_name x)) shape (asked_of_parameter outer x) y))
     (ap (λ (w : Word). w.place) (name_word x))

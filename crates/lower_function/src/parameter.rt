@@ -14,6 +14,7 @@ ghost use Rattle.lower_function.specs.Formals.{formal, formal_list, formals, bin
 use crate::literal::default_value;
 use core_program::program::Parameter as Bound;
 use dart_base::bytes::Bytes;
+use dart_base::limit::PARAMETERS;
 use dart_ir::kind::{Shape, SiteKind};
 use dart_ir::value::Value;
 use dart_tree::expression::Value as Given;
@@ -187,7 +188,7 @@ fn bind_tested<S: Surroundings>(
     })
 }
 
-// A parameter, with so many before it. No list has more than 255.
+// A parameter, with so many before it.
 fn bind<S: Surroundings>(
     alloc: Global,
     outside: &S,
@@ -207,7 +208,7 @@ fn bind<S: Surroundings>(
     let x = bind_variable(
         alloc, outside, state, allowed, this_dot, name, wanted, final_one,
     )?;
-    if before == 255 {
+    if before == PARAMETERS {
         return Err(LowerFault::TooLarge(place_of(name)));
     }
     let default = default_value(alloc, outside, state, of.value)?;

@@ -1,1 +1,2 @@
+-- means of proof
 pub mod Lists

@@ -1,4 +1,5 @@
 pub mod Members
-pub mod Building
 pub mod Inside
 pub mod Constructors
+-- means of proof
+pub mod Building

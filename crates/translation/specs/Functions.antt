@@ -2,6 +2,7 @@
 -- Expressions, 17.4 Local Function Declaration).
 use Rattle.std.specs.Prelude.{ℕ, ◌+◌, List, [], ◌∷◌, ◌++◌, filter, length, take, nat_eq, Option, None, Some, Bool, true, false, ◌&&◌, ◌||◌, not, neg_ℤ, pos}
 use Rattle.std.specs.List.{list_any, range_with_len}
+use Rattle.dart_base.specs.declared.limit.TheConstants.{PARAMETERS}
 use Rattle.dart_base.specs.declared.place.Place.{Place}
 use Rattle.dart_tree.specs.declared.parameter.Brackets.{Brackets}
 use Rattle.dart_tree.specs.declared.parameter.ThisDot.{ThisDot}
@@ -147,9 +148,9 @@ abbrev pub counted_if : {A : Type 0} → Bool → Place → Walk A → Walk A
 counted_if false place walk st = walk st
 counted_if true place walk st = refused (too_large place)
 
--- No list has more than 255 parameters; n stand before this one.
+-- No list has more parameters than the limit; n stand before this one.
 abbrev pub counted : {A : Type 0} → ℕ → Place → Walk A → Walk A
-counted n place walk st = counted_if (nat_eq n 255) place walk st
+counted n place walk st = counted_if (nat_eq n PARAMETERS) place walk st
 
 -- a parameter whose value is tested as it is bound
 abbrev pub bind_tested : Word → Shape → Asked → ℕ → Value → Walk (p.Parameter Text)
