@@ -1,6 +1,6 @@
--- The classes of a table, and the classes as they are declared (ECMA-408, 10 Classes, 12.1 Mixin Application).
-use Rattle.std.specs.Prelude.{ℕ, ◌==◌, List, [], ◌∷◌, length, map, Option, Some, None, Bool, true, false, slice_get, unwrap_or}
-use Rattle.std.specs.Option.{is_some, option_and_then, option_map_or}
+-- The classes of a table, and the classes as they are declared (ECMA-408, 10 Classes, 12 Mixins).
+use Rattle.std.specs.Prelude.{ℕ, zero, suc, ◌==◌, List, [], ◌∷◌, length, map, Option, Some, None, Bool, true, false, slice_get, unwrap_or}
+use Rattle.std.specs.Option.{is_some, option_and_then, option_map, option_map_or}
 use Rattle.std.specs.List.{list_any, enumerate_from, position_from}
 use Rattle.dart_ir.specs.Ty.{TysOf, class, nil, cons}
 use Rattle.dart_ir.specs.declared.class.Classes.{Classes}
@@ -9,6 +9,7 @@ use Rattle.core_program.specs.Named as with_names
 use Rattle.core_program.specs.Program as p
 use Rattle.core_program.specs.ProgramView as pv
 use Rattle.translation.specs.Surroundings.{Text, Ty, Mixin}
+use Rattle.lower_annotation.specs.Instance.{instance}
 use Rattle.lower_added.specs.Added.{Generative, Written, constructors_added, starts_added}
 use Rattle.lower_added.specs.declared.added.Row.{Row}
 
@@ -86,17 +87,7 @@ abbrev pub listed : TysOf Text → List Ty
 listed nil = []
 listed (cons t ts) = t ∷ listed ts
 
-abbrev pub mixin_as : Ty → Option Mixin
-mixin_as (class n arguments) = Some (record { class = n; arguments = listed arguments })
-mixin_as other = None
-
--- the mixin of a mixin application: its first interface
-abbrev pub first_mixin : p.Class Text → Option Mixin
-first_mixin row = option_and_then mixin_as (slice_get row.interfaces 0)
-
-abbrev pub mixin_if : Bool → Option (p.Class Text) → Option Mixin
-mixin_if true row = option_and_then first_mixin row
-mixin_if false row = None
+-- ---- mixins
 
 -- A row is a mixin application that has no declaration, or whose class is written so.
 abbrev pub is_application : List Bool → Option ℕ → Bool
@@ -106,8 +97,35 @@ is_application mixed (Some c) = unwrap_or (slice_get mixed c) false
 abbrev pub applications : List Bool → List (Option ℕ) → List Bool
 applications mixed classes = map (is_application mixed) classes
 
+abbrev pub first_interface : Option (p.Class Text) → Option Ty
+first_interface row = option_and_then (λ (x : p.Class Text). slice_get x.interfaces 0) row
+
+abbrev pub mixin_if : Bool → Option Ty → Option Ty
+mixin_if true mixin = mixin
+mixin_if false mixin = None
+
+-- the mixin that a row names, which is a mixin application: its first interface
+abbrev pub named_mixin : Rows → List Bool → ℕ → Option Ty
+named_mixin rows all n = mixin_if (unwrap_or (slice_get all n) false) (first_interface (slice_get rows n))
+
+-- the mixin that the class of a type names, where that is a mixin application, with the arguments of the type put in
+abbrev pub next_mixin : Rows → List Bool → Ty → Option Ty
+next_mixin rows all (class n given) = option_map (instance given) (named_mixin rows all n)
+next_mixin rows all other = None
+
+-- What a class adds to its superclass is its mixin (12 Mixins). One that is a mixin application adds what the mixin that it names adds,
+-- and so on. A class stands behind those that its header names, so as many steps as there are rows are enough.
+abbrev pub declared_mixin : Rows → List Bool → ℕ → Ty → Ty
+declared_mixin rows all zero of = of
+declared_mixin rows all (suc steps) of = option_map_or (declared_mixin rows all steps) (next_mixin rows all of) of
+
+abbrev pub mixin_as : Ty → Option Mixin
+mixin_as (class n arguments) = Some (record { class = n; arguments = listed arguments })
+mixin_as other = None
+
+-- the mixin of a row that is a mixin application: the class that declares what it adds, with type arguments
 abbrev pub mixin_at : Rows → List Bool → ℕ → Option Mixin
-mixin_at rows all n = mixin_if (unwrap_or (slice_get all n) false) (slice_get rows n)
+mixin_at rows all n = option_and_then (λ (of : Ty). mixin_as (declared_mixin rows all (length rows) of)) (named_mixin rows all n)
 
 -- ---- what is added to rows
 
@@ -121,12 +139,12 @@ row_by classes own None superclass = record { writes = own; is_application = fal
 row_by classes own (Some mixin) superclass =
     record { writes = found_at classes mixin; is_application = true; superclass = superclass }
 
-abbrev pub added_row : List Bool → List (Option ℕ) → Option ℕ → p.Class Text → Row
-added_row mixed classes own row =
-    row_by classes own (mixin_number (mixin_if (is_application mixed own) (Some row))) (superclass_of row)
+abbrev pub added_row : Rows → List Bool → List (Option ℕ) → ℕ → p.Class Text → Row
+added_row rows all classes n row = row_by classes (found_at classes n) (mixin_number (mixin_at rows all n)) (superclass_of row)
 
-abbrev pub added_rows : List Bool → List (Option ℕ) → Rows → List Row
-added_rows mixed classes rows = map (λ (x : ℕ × p.Class Text). added_row mixed classes (found_at classes x.0) x.1) (enumerate_from 0 rows)
+-- which rows are mixin applications, and which classes they are, says what counts of them
+abbrev pub added_rows : Rows → List Bool → List (Option ℕ) → List Row
+added_rows rows all classes = map (λ (x : ℕ × p.Class Text). added_row rows all classes x.0 x.1) (enumerate_from 0 rows)
 
 -- ---- all of it
 
@@ -162,7 +180,7 @@ index_by s declared classes rows = record {
   classes = classes;
   applications = applications s.mixed classes;
   parameters = parameter_counts rows;
-  constructors = constructors_added s.written s.count (added_rows s.mixed classes rows);
+  constructors = constructors_added s.written s.count (added_rows rows (applications s.mixed classes) classes);
   natives = s.natives;
   int_class = unwrap_or (found_at declared s.int_class) 0;
   string_class = unwrap_or (found_at declared s.string_class) 0;
@@ -174,4 +192,5 @@ index_of s rows = index_by s (rows_declared s.declarations rows) (classes_of s.d
 
 -- the number at which what is added to each row begins, behind all declarations
 abbrev pub starts_of : Source → Rows → List ℕ
-starts_of s rows = starts_added s.written s.count (added_rows s.mixed (classes_of s.declarations rows) rows)
+starts_of s rows = let classes = classes_of s.declarations rows in
+    starts_added s.written s.count (added_rows rows (applications s.mixed classes) classes)

@@ -1,6 +1,8 @@
 -- What contracts see of the rows of a table, in which names are texts.
 use Rattle.std.specs.Prelude.{List, map, Option, Some, None}
+use Rattle.std.specs.Borrow.{Bor}
 use Rattle.dart_ir.specs.Ty as dart
+use Rattle.dart_ir.specs.Ty.{TysOf}
 use Rattle.dart_ir.specs.declared.class.ClassInfo.{ClassInfo}
 use Rattle.dart_ir.specs.declared.types.TypeRef.{TypeRef}
 use Rattle.core_program.specs.Named as with_names
@@ -13,6 +15,13 @@ use Rattle.lower_table.specs.Rows.{Rows}
 
 abbrev pub ty : List Text → TypeRef → Ty
 ty texts of = with_names.ty (pv.text_at texts) (dart.ty of)
+
+abbrev pub tys : List Text → List TypeRef → TysOf Text
+tys texts all = with_names.tys (pv.text_at texts) (dart.tys all)
+
+abbrev pub option_ty : List Text → Option (Bor TypeRef) → Option Ty
+option_ty texts None = None
+option_ty texts (Some x) = Some (ty texts x.now)
 
 abbrev pub row : List Text → ClassInfo → p.Class Text
 row texts x = with_names.class (pv.text_at texts) (pv.class x)

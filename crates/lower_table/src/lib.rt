@@ -3,6 +3,7 @@
 
 pub mod addition;
 pub mod lookup;
+pub mod mixin;
 pub mod place;
 pub mod row;
 pub mod source;

@@ -4,12 +4,13 @@ ghost use Rattle.std.specs.Option.{is_some};
 ghost use Rattle.std.specs.List.{list_any};
 ghost use Rattle.core_program.specs.ProgramView as pv;
 ghost use Rattle.lower_leaf.specs.Around.{class};
-ghost use Rattle.lower_table.specs.Rows.{added_row, added_rows, applications, class_of, first_mixin, found_at, is_application, mixin_as, mixin_number, parameter_counts, row_by, row_declarations, superclass_of};
+ghost use Rattle.lower_table.specs.Rows.{added_row, added_rows, applications, class_of, found_at, is_application, mixin_number, parameter_counts, row_by, row_declarations, superclass_of};
 ghost use Rattle.lower_table.specs.Seen.{mixin, row, rows, ty};
 
+use crate::mixin::mixin_at;
 use dart_ir::class::ClassInfo;
 use dart_ir::number::ClassId;
-use dart_ir::types::{TypeRef, try_clone_types};
+use dart_ir::types::TypeRef;
 use lower_added::added::Row;
 use lower_leaf::fault::Want;
 use lower_leaf::meaning::Mixin;
@@ -57,44 +58,6 @@ pub fn superclass_of(info: &ClassInfo) -> Option<ClassId>
     match &info.superclass {
         Some(superclass) => class_of(superclass),
         None => None,
-    }
-}
-
-// The class of the mixin of a mixin application: its first interface.
-fn first_class(info: &ClassInfo) -> Option<ClassId>
-    ensures { (texts : List (List ℕ)) → class result ≡ mixin_number (first_mixin (row texts info.now)) }
-{
-    match info.interfaces.first() {
-        Some(first) => class_of(first),
-        None => None,
-    }
-}
-
-// The class that a type is of, with its arguments.
-#[tactic(auto, using(crate::proofs::Typed::row_views))]
-fn mixin_as(alloc: Global, of: &TypeRef) -> Result<Option<Mixin>, Want>
-    ensures { IfOk result (λ made. (texts : List (List ℕ)) → mixin texts made ≡ mixin_as (ty texts of.now)) }
-{
-    match of {
-        TypeRef::Class(class, arguments) => Ok(Some(Mixin {
-            class: *class,
-            arguments: try_clone_types(alloc, arguments)?,
-        })),
-        TypeRef::Dynamic
-        | TypeRef::Bottom
-        | TypeRef::Void
-        | TypeRef::Param(_)
-        | TypeRef::Function(_) => Ok(None),
-    }
-}
-
-/// The mixin of a mixin application: its first interface, with the type arguments that it has (ECMA-408, 12.1 Mixin Application).
-pub fn first_mixin(alloc: Global, info: &ClassInfo) -> Result<Option<Mixin>, Want>
-    ensures { IfOk result (λ made. (texts : List (List ℕ)) → mixin texts made ≡ first_mixin (row texts info.now)) }
-{
-    match info.interfaces.first() {
-        Some(first) => mixin_as(alloc, first),
-        None => Ok(None),
     }
 }
 
@@ -183,30 +146,45 @@ fn row_by(
     }
 }
 
-fn added_row(mixed: &[bool], classes: &[Option<u32>], own: Option<u32>, info: &ClassInfo) -> Row
-    ensures { (texts : List (List ℕ)) → result ≡ added_row mixed.now classes.now own (row texts info.now) }
+fn mixin_class(of: &Option<Mixin>) -> Option<ClassId>
+    ensures { (texts : List (List ℕ)) → class result ≡ mixin_number (mixin texts of.now) }
 {
-    let superclass = superclass_of(info);
-    if is_application(mixed, own) {
-        return row_by(classes, own, first_class(info), superclass);
+    match of {
+        None => None,
+        Some(found) => Some(found.class),
     }
-    row_by(classes, own, None, superclass)
 }
 
-/// What counts of each row for what is added to it, where these are the classes that the rows are, and these are written as mixin
-/// applications.
+fn added_row(
+    alloc: Global,
+    classes: &[ClassInfo],
+    applications: &[bool],
+    declared: &[Option<u32>],
+    place: usize,
+    info: &ClassInfo,
+) -> Result<Row, Want>
+    ensures { IfOk result (λ made. (texts : List (List ℕ)) → made
+        ≡ added_row (rows texts classes.now) applications.now declared.now place (row texts info.now)) }
+{
+    let mixin = mixin_at(alloc, classes, applications, place)?;
+    let own = found_at(declared, place);
+    Ok(row_by(declared, own, mixin_class(&mixin), superclass_of(info)))
+}
+
+/// What counts of each row for what is added to it, where these rows are mixin applications, and these are the classes that they are.
+/// `Want` where memory runs out.
 pub fn added_rows(
     alloc: Global,
-    mixed: &[bool],
-    classes: &[Option<u32>],
-    infos: &[ClassInfo],
+    classes: &[ClassInfo],
+    applications: &[bool],
+    declared: &[Option<u32>],
 ) -> Result<Vec<Row>, Want>
-    ensures { IfOk result (λ made. (texts : List (List ℕ)) → made.items ≡ added_rows mixed.now classes.now (rows texts infos.now)) }
+    ensures { IfOk result (λ made. (texts : List (List ℕ)) → made.items ≡ added_rows (rows texts classes.now) applications.now declared.now) }
 {
     let mut made = Vec::new(alloc);
     let mut place: usize = 0;
-    for info in infos {
-        made.push(added_row(mixed, classes, found_at(classes, place), info))?;
+    for info in classes {
+        made.push(added_row(alloc, classes, applications, declared, place, info)?)?;
         place += 1;
     }
     Ok(made)

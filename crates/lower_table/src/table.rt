@@ -1,5 +1,5 @@
 // What the bodies of a program are translated in, with classes numbered as rows of its table.
-ghost use Rattle.std.specs.Prelude.{◌≡◌, [], IfOk, bytes_eq, false, map, slice_get, unwrap_or};
+ghost use Rattle.std.specs.Prelude.{◌≡◌, [], IfOk, bytes_eq, map, slice_get, unwrap_or};
 ghost use Rattle.std.specs.Option.{option_map};
 ghost use Rattle.lower_added.specs.Written.{generative};
 ghost use Rattle.lower_leaf.specs.Around.{constructor};
@@ -14,10 +14,10 @@ use crate::lookup::{
     class_constructor, class_library, class_meaning, class_prefixed, class_static, library_meaning,
     library_number, library_prefixed, renumbered,
 };
+use crate::mixin::mixin_at;
 use crate::place::places_of;
 use crate::row::{
-    applications, first_mixin, found_at, is_bounded, parameter_counts, row_declarations,
-    superclass_of,
+    applications, found_at, is_bounded, parameter_counts, row_declarations, superclass_of,
 };
 use crate::source::{class_declarations, mixed};
 use dart_base::name::Name;
@@ -109,15 +109,6 @@ impl<'a> TableScopes<'a> {
             Some(all) => constructor_called(&self.scopes.names, all, id),
         }
     }
-
-    fn is_application(&self, row: ClassId) -> bool
-        ensures { result ≡ unwrap_or (slice_get self.now.applications.items row.0) false }
-    {
-        self.applications
-            .get(row.0 as usize)
-            .copied()
-            .unwrap_or(false)
-    }
 }
 
 impl<'a> Surroundings for TableScopes<'a> {
@@ -202,13 +193,12 @@ impl<'a> Surroundings for TableScopes<'a> {
     }
 
     fn mixin(&self, alloc: Global, of: ClassId) -> Result<Option<Mixin>, Want> {
-        if !self.is_application(of) {
-            return Ok(None);
-        }
-        match self.row_at(of) {
-            None => Ok(None),
-            Some(info) => first_mixin(alloc, info),
-        }
+        mixin_at(
+            alloc,
+            &self.classes.classes,
+            &self.applications,
+            of.0 as usize,
+        )
     }
 
     fn first_field(&self, of: ClassId) -> u32 {
@@ -264,11 +254,12 @@ pub fn table_scopes<'a>(
     let rows = places_of(alloc, &from_classes, &from_rows)?;
     let declared = places_of(alloc, &from_rows, &from_classes)?;
     let mixed = mixed(alloc, &scopes.classes)?;
-    let added = added_to_rows(alloc, scopes, &mixed, &declared, classes)?;
+    let applications = applications(alloc, &mixed, &declared)?;
+    let added = added_to_rows(alloc, scopes, &applications, &declared, classes)?;
     Ok(TableScopes {
         scopes,
         classes,
-        applications: applications(alloc, &mixed, &declared)?,
+        applications,
         parameters: parameter_counts(alloc, &classes.classes)?,
         constructors: added.constructors,
         natives: natives(alloc, &scopes.names, &scopes.numbered)?,

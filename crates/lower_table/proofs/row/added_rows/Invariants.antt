@@ -1,7 +1,7 @@
 use Rattle.std.proofs.Common.{◌≡◌, ◌++◌, List, ℕ, drop, map}
 use Rattle.std.specs.List.{enumerate_from}
 use Rattle.core_program.specs.Program as p
-use Rattle.lower_table.specs.Rows.{added_row, added_rows, found_at}
+use Rattle.lower_table.specs.Rows.{added_row, added_rows}
 use Rattle.lower_table.specs.Seen.{rows}
 use Rattle.lower_table.proofs.row.added_rows.Given as goal
 
@@ -9,6 +9,6 @@ use Rattle.lower_table.proofs.row.added_rows.Given as goal
 abbrev pub invariant-loop-info : goal.invariant-loop-info
 invariant-loop-info l = record {
   count : l.place ≡ l.info-index;
-  known : (texts : List (List ℕ)) → l.made.items ++ map (λ (x : ℕ × p.Class (List ℕ)). added_row l.mixed l.classes (found_at l.classes x.0) x.1) (enumerate_from l.place (rows texts (drop l.info-index l.infos)))
-      ≡ added_rows l.mixed l.classes (rows texts l.infos);
+  known : (texts : List (List ℕ)) → l.made.items ++ map (λ (x : ℕ × p.Class (List ℕ)). added_row (rows texts l.classes) l.applications l.declared x.0 x.1) (enumerate_from l.place (rows texts (drop l.info-index l.classes)))
+      ≡ added_rows (rows texts l.classes) l.applications l.declared;
 }

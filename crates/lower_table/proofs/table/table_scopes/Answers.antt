@@ -27,13 +27,15 @@ returns c = λ s h.
     ∙ (λ i. map (place_in ((c.deref-6.ensures.value ∙ from_classes) i)) ((c.deref-5.ensures.value ∙ from_rows) i)) in
     let mixed : c.in_ok-mixed.mixed.items ≡ source.mixed =
     c.in_ok-mixed.ensures ∙ ap (map (λ (m : ClassScope). m.is_mixed)) c.deref-7.ensures.value in
+    let applied : c.in_ok-applications.applications.items ≡ applications source.mixed (classes_of source.declarations all) = c.in_ok-applications.ensures
+    ∙ (λ i. applications ((c.deref-8.ensures.value ∙ mixed) i) ((c.deref-9.ensures.value ∙ classes) i)) in
     (λ i. around_by (meanings_made x) all (record {
       rows = declared i;
       classes = classes i;
-      applications = (c.in_ok-applications.ensures ∙ (λ j. applications ((c.deref-10.ensures.value ∙ mixed) j) ((c.deref-11.ensures.value ∙ classes) j))) i;
+      applications = applied i;
       parameters = (c.in_ok-parameter_counts.ensures x.names ∙ ap (λ (l : List ClassInfo). parameter_counts (rows x.names l)) c.deref-12.ensures.value) i;
       constructors = (c.in_ok-added.ensures.constructors
-          ∙ (λ j. constructors_added source.written source.count (added_rows ((c.deref-8.ensures.value ∙ mixed) j) ((c.deref-9.ensures.value ∙ classes) j) all))) i;
+          ∙ (λ j. constructors_added source.written source.count (added_rows all ((c.deref-10.ensures.value ∙ applied) j) ((c.deref-11.ensures.value ∙ classes) j)))) i;
       natives = (c.in_ok-natives.ensures ∙ ap (natives x.names) c.deref-13.ensures.value) i;
       int_class = (c.unwrap_or.ensures ∙ ap (λ o. unwrap_or o 0) (c.found_at.ensures ∙ ap (λ l. found_at l x.int_class) (c.deref-14.ensures.value ∙ declared))) i;
       string_class = (c.unwrap_or-2.ensures ∙ ap (λ o. unwrap_or o 0) (c.found_at-2.ensures ∙ ap (λ l. found_at l x.string_class) (c.deref-15.ensures.value ∙ declared))) i;
