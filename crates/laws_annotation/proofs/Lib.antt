@@ -1,0 +1,4 @@
+mod Mapped
+mod Lasts
+mod Declares
+mod UnitDeclares
