@@ -1,5 +1,5 @@
 -- Erasure keeps what expressions, statements and functions declare, and where that counts.
-use Rattle.std.proofs.Common.{◌≡◌, refl, ℕ, List, [], ◌∷◌, ◌++◌}
+use Rattle.std.proofs.Common.{◌≡◌, refl, ℕ, List, ◌∷◌, ◌++◌}
 use Rattle.dart_base.specs.declared.place.Place.{Place}
 use Rattle.dart_tree.specs.declared.identifier.Identifier.{Identifier}
 use Rattle.dart_tree.specs.Types as y

@@ -1,5 +1,5 @@
 -- Erasure keeps the place of a tree's last token.
-use Rattle.std.proofs.Common.{◌≡◌, refl, Option, None, Some}
+use Rattle.std.proofs.Common.{◌≡◌, refl}
 use Rattle.dart_base.specs.declared.place.Place.{Place}
 use Rattle.dart_tree.specs.Tree as t
 use Rattle.dart_erase.specs.Erased as erased
@@ -24,7 +24,7 @@ pub block_end : (x : t.Block) → block_last (erased.block x) ≡ block_last x
 unfolding erased.block
 block_end (t.the_block opening statements closing) = refl
 
-variables_end : (x : t.Variables) → variables_last (erased.variables x) ≡ variables_last x
+pub variables_end : (x : t.Variables) → variables_last (erased.variables x) ≡ variables_last x
 unfolding erased.variables
 variables_end (t.the_variables kind name value more semicolon) = refl
 
@@ -77,7 +77,7 @@ mutual
   body_end (t.block_body inside) = block_end inside
   body_end (t.no_body semicolon) = refl
 
-function_end : (x : t.Function) → function_last (erased.function x) ≡ function_last x
+pub function_end : (x : t.Function) → function_last (erased.function x) ≡ function_last x
 unfolding erased.function
 function_end (t.the_function external result_type name given inner) = body_end inner
 

@@ -2,3 +2,11 @@ mod Mapped
 mod Lasts
 mod Declares
 mod UnitDeclares
+mod Heads
+mod Loads
+mod Libraries
+mod Entries
+mod Stretches
+mod Programs
+mod Classes
+mod Scopes

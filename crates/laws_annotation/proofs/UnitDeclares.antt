@@ -1,5 +1,5 @@
 -- Erasure keeps what a unit declares.
-use Rattle.std.proofs.Common.{◌≡◌, refl, ℕ, suc, List, [], ◌∷◌, ◌++◌, map, flat_map, Option, None, Some, ◌&&◌}
+use Rattle.std.proofs.Common.{◌≡◌, refl, ℕ, suc, List, [], ◌∷◌, ◌++◌, map, Option, None, Some, ◌&&◌}
 use Rattle.dart_base.specs.declared.place.Place.{Place}
 use Rattle.dart_tree.specs.declared.identifier.Identifier.{Identifier}
 use Rattle.dart_tree.specs.UnitView.{maybe}
@@ -90,7 +90,7 @@ module _ (n : List ℕ → ℕ) where
   init_same x = init_kind_same x.kind
 
   initializers_same : (x : u.Initializers) → d.initializers_declares n (of_unit.initializers x) ≡ d.initializers_declares n x
-  initializers_same x = flat_same (d.init_declares n) of_unit.init init_same x.items
+  initializers_same x = flat_same of_unit.init (d.init_declares n) init_same x.items
 
   constructor_same : (scope : Place) (x : u.Constructor) → d.constructor_declares n scope (of_unit.constructor x) ≡ d.constructor_declares n scope x
   constructor_same scope (u.generative constant name given inits inner) =
@@ -125,7 +125,7 @@ module _ (n : List ℕ → ℕ) where
   class_kind_same : (x : u.ClassKind) → d.class_kind_declares n (of_unit.class_kind x) ≡ d.class_kind_declares n x
   class_kind_same (u.declared_class above interfaces opening members closing) =
       let extent : Extent = record { scope = opening; after = opening; last = closing } in
-      flat_same (d.member_declares n extent) of_unit.member (member_same extent) members
+      flat_same of_unit.member (d.member_declares n extent) (member_same extent) members
   class_kind_same (u.mixed_class equals above mixins interfaces semicolon) = refl
 
   class_same : (extent : Extent) (x : u.Class) → d.class_declares n extent (of_unit.class x) ≡ d.class_declares n extent x
@@ -150,4 +150,4 @@ module _ (n : List ℕ → ℕ) where
 
   pub unit_same : (library : Place) (x : u.UnitTree) → unit_declares n library (of_unit.unit x) ≡ unit_declares n library x
   unfolding unit_declares
-  unit_same library x = flat_same (d.decl_declares n (nowhere library)) of_unit.decl (decl_same (nowhere library)) x.declarations
+  unit_same library x = flat_same of_unit.decl (d.decl_declares n (nowhere library)) (decl_same (nowhere library)) x.declarations

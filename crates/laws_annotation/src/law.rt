@@ -3,11 +3,66 @@ ghost use Rattle.std.specs.Prelude.{◌≡◌, ℕ, List};
 ghost use Rattle.dart_base.specs.declared.place.Place.{Place};
 ghost use Rattle.dart_erase.specs.UnitErased as erased;
 ghost use Rattle.dart_tree.specs.Unit.{UnitTree};
+ghost use Rattle.dart_scope.specs.Making.{IsProgram};
+ghost use Rattle.dart_scope.specs.declared.program.Program.{Program};
+ghost use Rattle.laws_annotation.specs.Erased.{erased_scoping, erased_state};
+ghost use Rattle.laws_annotation.specs.Under.{IsScopingUnder};
 ghost use Rattle.scope_declared.specs.UnitDeclared.{unit_declares};
+ghost use Rattle.scope_library.specs.Library.{homes_of, libraries_of};
+ghost use Rattle.scope_load.specs.State.{State, after};
+ghost use Rattle.scope_load.specs.declared.units.UnitName.{UnitName};
+ghost use Rattle.scope_mention.specs.Head.{is_part_of, part_place};
+ghost use Rattle.scope_mention.specs.Mention.{mentions_of};
+ghost use Rattle.scope_program.specs.Around.{headers_around, members_around};
+ghost use Rattle.scope_program.specs.Program.{Scoping};
+ghost use Rattle.translation.specs.Surroundings.{Text};
 
 /// An erased unit declares exactly what the unit declares, in its order, each with its place, its kind and where it counts
 /// (ECMA-408, 6.1 Scoping), however names are numbered.
 pub fn declarations_are_kept()
     ensures { (number : List ℕ → ℕ) (library : Place) (x : UnitTree)
         → unit_declares number library (erased.unit x) ≡ unit_declares number library x }
+{}
+
+/// An erased unit mentions the same units, is a part where the unit is one, and of a library that it was a part of
+/// (ECMA-408, 18 Libraries and Scripts).
+pub fn directives_are_kept()
+    ensures mentions { (x : UnitTree) → mentions_of (erased.unit x) ≡ mentions_of x }
+    ensures part { (x : UnitTree) → part_place (erased.unit x) ≡ part_place x }
+    ensures part_of { (x library : UnitTree) → is_part_of (erased.unit x) (erased.unit library) ≡ is_part_of x library }
+{}
+
+/// Where an erased unit is taken into an erased program, the program becomes what it becomes with the unit, erased: with the
+/// same units to be taken and the same links.
+pub fn loading_goes_on_alike()
+    ensures { (root : List ℕ) (state : State) (name : UnitName) (x : UnitTree) (weight : ℕ)
+        → after root (erased_state state) name (erased.unit x) weight ≡ erased_state (after root state name x weight) }
+{}
+
+/// An erased program has the same libraries, with the same parts, imports and exports, and each unit belongs to the same
+/// (ECMA-408, 18 Libraries and Scripts).
+pub fn libraries_are_kept()
+    ensures libraries { (state : State) → libraries_of (erased_state state) ≡ libraries_of state }
+    ensures homes { (state : State) → homes_of (erased_state state) ≡ homes_of state }
+{}
+
+/// What the units of a program make of a table of names and the numbers of their libraries, an erased program makes of them too:
+/// declarations with their numbers, libraries, and where there is no instance (ECMA-408, 6.1 Scoping, 18 Libraries and Scripts).
+pub fn programs_are_kept()
+    ensures { (names : List Text) (homes : List ℕ) (state : State) (program : Program) → IsProgram names homes state program
+        → IsProgram names homes (erased_state state) program }
+{}
+
+/// Under one table of names, names mean in an erased program what they mean in the program, and its classes are those of the
+/// program but for the trees of their members (ECMA-408, 16.33 Identifier Reference).
+pub fn scopings_are_kept()
+    ensures { (table : List Text) (state : State) (s : Scoping) → IsScopingUnder table state s
+        → IsScopingUnder table (erased_state state) (erased_scoping s) }
+{}
+
+/// Headers and members of classes are read in the same surroundings: what names mean, what classes declare as static, and their
+/// constructors (ECMA-408, 10 Classes).
+pub fn surroundings_are_kept()
+    ensures headers { (s : Scoping) → headers_around (erased_scoping s) ≡ headers_around s }
+    ensures members { (s : Scoping) → members_around (erased_scoping s) ≡ members_around s }
 {}

@@ -1,4 +1,4 @@
-// That a program and the erased one declare the same, and that names mean the same in them.
+// That names mean in an erased program what they mean in the program.
 #![tactic(auto)]
 
 pub mod law;
