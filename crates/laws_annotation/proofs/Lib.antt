@@ -10,3 +10,6 @@ mod Stretches
 mod Programs
 mod Classes
 mod Scopes
+mod Signatures
+mod Members
+mod Rows

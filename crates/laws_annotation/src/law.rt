@@ -1,11 +1,13 @@
 // Laws of erased programs: what of the names of a program doesn't depend on its annotations.
-ghost use Rattle.std.specs.Prelude.{◌≡◌, ℕ, List};
+ghost use Rattle.std.specs.Prelude.{◌≡◌, ℕ, List, map};
+ghost use Rattle.class_source.specs.Source.{Given, SourceUnit, classes_of};
 ghost use Rattle.dart_base.specs.declared.place.Place.{Place};
 ghost use Rattle.dart_erase.specs.UnitErased as erased;
 ghost use Rattle.dart_tree.specs.Unit.{UnitTree};
 ghost use Rattle.dart_scope.specs.Making.{IsProgram};
 ghost use Rattle.dart_scope.specs.declared.program.Program.{Program};
-ghost use Rattle.laws_annotation.specs.Erased.{erased_scoping, erased_state};
+ghost use Rattle.laws_annotation.specs.Erased.{erased_scoping, erased_source, erased_state};
+ghost use Rattle.laws_annotation.specs.Loose.{loose_classes};
 ghost use Rattle.laws_annotation.specs.Under.{IsScopingUnder};
 ghost use Rattle.scope_declared.specs.UnitDeclared.{unit_declares};
 ghost use Rattle.scope_library.specs.Library.{homes_of, libraries_of};
@@ -65,4 +67,11 @@ pub fn scopings_are_kept()
 pub fn surroundings_are_kept()
     ensures headers { (s : Scoping) → headers_around (erased_scoping s) ≡ headers_around s }
     ensures members { (s : Scoping) → members_around (erased_scoping s) ≡ members_around s }
+{}
+
+/// The classes that erased units declare are those of the units, row by row, but for the types in the signatures of members,
+/// and for whether a class names `super`, which may stand in parameters of a parameter (ECMA-408, 10 Classes).
+pub fn class_rows_are_kept()
+    ensures { (given : Given) (units : List SourceUnit)
+        → loose_classes (classes_of given (map erased_source units)) ≡ loose_classes (classes_of given units) }
 {}

@@ -1,0 +1,17 @@
+-- The classes of a program without what erasure may change of them: the types in the signatures of their members, and whether
+-- their members name `super`, which may stand in parameters of a parameter, where erasure drops it.
+use Rattle.std.specs.Prelude.{map, false}
+use Rattle.core_program.specs.Stripped as stripped
+use Rattle.class_source.specs.Rows.{Member, Class, Classes}
+
+abbrev pub loose_member : Member → Member
+loose_member m = record m { signature = stripped.loose m.signature }
+
+abbrev pub loose_class : Class → Class
+loose_class c = record c {
+  standing = record c.standing { names_super = false };
+  members = map loose_member c.members;
+}
+
+abbrev pub loose_classes : Classes → Classes
+loose_classes x = record x { classes = map loose_class x.classes }
