@@ -13,3 +13,4 @@ mod Scopes
 mod Signatures
 mod Members
 mod Rows
+mod Given

@@ -1,3 +1,4 @@
 pub mod Erased
 pub mod Under
 pub mod Loose
+pub mod Tables

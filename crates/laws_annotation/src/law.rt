@@ -2,13 +2,18 @@
 ghost use Rattle.std.specs.Prelude.{◌≡◌, ℕ, List, map};
 ghost use Rattle.class_source.specs.Source.{Given, SourceUnit, classes_of};
 ghost use Rattle.dart_base.specs.declared.place.Place.{Place};
+ghost use Rattle.dart_class.specs.Given.{class_given, source_units};
 ghost use Rattle.dart_erase.specs.UnitErased as erased;
 ghost use Rattle.dart_tree.specs.Unit.{UnitTree};
+ghost use Rattle.dart_ir.specs.declared.class.Classes.{Classes};
+ghost use Rattle.dart_lower.specs.Given.{given_of};
 ghost use Rattle.dart_scope.specs.Making.{IsProgram};
 ghost use Rattle.dart_scope.specs.declared.program.Program.{Program};
 ghost use Rattle.laws_annotation.specs.Erased.{erased_scoping, erased_source, erased_state};
 ghost use Rattle.laws_annotation.specs.Loose.{loose_classes};
+ghost use Rattle.laws_annotation.specs.Tables.{DifferInSignaturesAlone};
 ghost use Rattle.laws_annotation.specs.Under.{IsScopingUnder};
+ghost use Rattle.laws_translation.specs.Bare.{erased_given, lines};
 ghost use Rattle.scope_declared.specs.UnitDeclared.{unit_declares};
 ghost use Rattle.scope_library.specs.Library.{homes_of, libraries_of};
 ghost use Rattle.scope_load.specs.State.{State, after};
@@ -74,4 +79,18 @@ pub fn surroundings_are_kept()
 pub fn class_rows_are_kept()
     ensures { (given : Given) (units : List SourceUnit)
         → loose_classes (classes_of given (map erased_source units)) ≡ loose_classes (classes_of given units) }
+{}
+
+/// The classes of an erased program are read with the same names and numbers, from the units of the program, erased
+/// (ECMA-408, 10 Classes).
+pub fn classes_are_read_alike()
+    ensures given { (s : Scoping) → class_given (erased_scoping s) ≡ class_given s }
+    ensures units { (state : State) → source_units (erased_state state) ≡ map erased_source (source_units state) }
+{}
+
+/// Over a table of classes that differs in signatures alone, what is translated of the erased program is, but for columns, the
+/// program with its units erased: so `core_of_erased` of laws_translation says that their cores are alike once both are stripped.
+pub fn translated_programs_differ_in_annotations()
+    ensures { (s : Scoping) (state : State) (k l : Classes) (main : ℕ) → DifferInSignaturesAlone s.texts l k
+        → lines (given_of (erased_scoping s) (erased_state state) l main) ≡ lines (erased_given (given_of s state k main)) }
 {}
