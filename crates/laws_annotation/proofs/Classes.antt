@@ -1,6 +1,6 @@
 -- The classes of an erased program are those of the program, with their members erased.
-use Rattle.std.proofs.Common.{◌≡◌, refl, sym, ap, ◌∙◌, ℕ, ◌+◌, ◌*◌, Bool, ◌||◌, if◌then◌else◌, List, [], ◌∷◌, ◌++◌, map, Option, None, Some}
-use Rattle.std.specs.Prelude.{flat_map, fold}
+use Rattle.std.proofs.Common.{◌≡◌, refl, sym, ◌∙◌, ℕ, ◌+◌, ◌*◌, ◌||◌, if◌then◌else◌, List, [], ◌∷◌, ◌++◌, map, Option, None, Some}
+use Rattle.std.specs.Prelude.{fold}
 use Rattle.std.specs.List.{list_any}
 use Rattle.std.proofs.lemmas.List.{map-append}
 use Rattle.dart_tree.specs.declared.identifier.Identifier.{Identifier}
@@ -13,12 +13,11 @@ use Rattle.dart_erase.specs.Erased as erased
 use Rattle.dart_erase.specs.UnitErased as of_unit
 use Rattle.scope_declared.specs.declared.declaration.Declared.{Declared}
 use Rattle.scope_class.specs.Constructors.{constructor_making, member_makings, makings}
-use Rattle.scope_class.specs.declared.constructor.Making.{Making}
 use Rattle.translation.specs.Surroundings.{Text}
 use Rattle.translation.specs.Types.{text_of, is_final}
 use Rattle.translation.specs.Classes.{is_static}
 use Rattle.translation.specs.ClassBodies.{is_constructor, has_constructor, members_of, is_mixed}
-use Rattle.scope_program.specs.Classes.{ClassScope, number_at, parameters_of, has_bound, class_scope, enum_scope, declared_scope, unit_scopes, class_scopes, more_count, variable_accessors, kind_accessors, member_accessors, accessor_count}
+use Rattle.scope_program.specs.Classes.{number_at, parameters_of, has_bound, class_scope, declared_scope, unit_scopes, class_scopes, more_count, variable_accessors, kind_accessors, member_accessors, accessor_count}
 use Rattle.laws_annotation.specs.Erased.{erased_class}
 use Rattle.laws_annotation.proofs.Mapped.{flat_same, map_same, any_same, flat_to}
 

@@ -1,6 +1,6 @@
 -- An erased program declares, imports and exports what the program does.
 use Rattle.std.proofs.Common.{◌≡◌, refl, sym, ap, ◌∙◌, subst, ℕ, ◌+◌, ◌==◌, min, List, [], ◌∷◌, map, Option, None, Some}
-use Rattle.std.specs.Prelude.{filter, flat_map, slice_get}
+use Rattle.std.specs.Prelude.{filter, slice_get}
 use Rattle.std.specs.Option.{option_map}
 use Rattle.std.specs.List.{AllZip}
 use Rattle.dart_tree.specs.UnitView.{maybe}
@@ -12,7 +12,6 @@ use Rattle.scope_declared.specs.Number.{number_of}
 use Rattle.scope_load.specs.State.{State}
 use Rattle.scope_library.specs.declared.library.Edge.{Edge}
 use Rattle.scope_library.specs.Library.{LibraryIs, libraries_of, number_of as library_number}
-use Rattle.scope_space.specs.declared.declaration.Kind.{Kind}
 use Rattle.scope_space.specs.declared.declaration.Kind.TheVariants as k
 use Rattle.scope_space.specs.declared.library.Import.{Import}
 use Rattle.scope_space.specs.declared.library.Export.{Export}
@@ -20,7 +19,7 @@ use Rattle.scope_space.specs.declared.library.Library.{Library}
 use Rattle.scope_entry.specs.declared.entry.Entry.{Entry}
 use Rattle.scope_entry.specs.Entries.{declarations_of}
 use Rattle.scope_entry.specs.Kinds.{parameter_count, required, function_kind, accessor_kind, more_kinds, variable_kinds, decl_kinds, unit_kinds}
-use Rattle.scope_entry.specs.Directives.{directive_kind_in, directive_kind_of, directive_prefix, directive_combinators, combinators_in, prefix_in, written_passes, IsImport, IsExport}
+use Rattle.scope_entry.specs.Directives.{directive_kind_in, directive_kind_of, combinators_in, prefix_in, written_passes, IsImport, IsExport}
 use Rattle.scope_entry.specs.Libraries.{IsLibrary, AreLibraries}
 use Rattle.laws_annotation.specs.Erased.{erased_state}
 use Rattle.laws_annotation.proofs.Mapped.{flat_same, get_mapped, zip_to}

@@ -12,16 +12,14 @@ use Rattle.core_program.specs.Stripped as stripped
 use Rattle.scope_load.specs.State.{State}
 use Rattle.scope_load.specs.declared.units.UnitName.{UnitName}
 use Rattle.scope_library.specs.Library.{homes_of}
-use Rattle.translation.specs.Surroundings.{Text, Names}
-use Rattle.translation.specs.Program as pg
+use Rattle.translation.specs.Surroundings.{Text}
 use Rattle.class_source.specs.Source as source
 use Rattle.scope_program.specs.Classes.{ClassScope, number_at}
 use Rattle.scope_program.specs.Program.{Scoping}
-use Rattle.lower_leaf.specs.declared.meaning.Outer.{Outer}
 use Rattle.lower_leaf.specs.Around.{Around}
 use Rattle.lower_added.specs.Natives.{natives}
 use Rattle.lower_added.specs.Written.{written_class}
-use Rattle.lower_table.specs.Rows.{Rows, rows_of, index_of}
+use Rattle.lower_table.specs.Rows.{rows_of, index_of}
 use Rattle.lower_table.specs.Table.{around_by, meanings_of, written_of, source_of, table_around}
 use Rattle.lower_program.specs.Views.{library_outer, member_info}
 use Rattle.dart_class.specs.Given.{class_given, source_unit as class_unit, source_units_from, source_units}

@@ -14,3 +14,6 @@ mod Signatures
 mod Members
 mod Rows
 mod Given
+mod Supers
+mod Mixable
+mod Reached

@@ -1,5 +1,5 @@
 -- An erased program has the same libraries.
-use Rattle.std.proofs.Common.{◌≡◌, refl, ℕ, ◌+◌, ◌-◌, Bool, ◌||◌, if◌then◌else◌, List, [], ◌∷◌, ◌++◌, map, Option, None, Some}
+use Rattle.std.proofs.Common.{◌≡◌, refl, ℕ, ◌+◌, ◌-◌, ◌||◌, if◌then◌else◌, List, [], ◌∷◌, ◌++◌, map, None, Some}
 use Rattle.std.specs.Prelude.{nat_eq, filter_map}
 use Rattle.std.specs.Option.{option_map}
 use Rattle.dart_tree.specs.Unit.{UnitTree}

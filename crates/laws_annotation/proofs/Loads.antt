@@ -1,5 +1,5 @@
 -- To load an erased unit is to load the unit: its mentions lead to the same units.
-use Rattle.std.proofs.Common.{◌≡◌, refl, sym, ap, ◌∙◌, ℕ, ◌+◌, Bool, true, false, if◌then◌else◌, List, [], ◌∷◌, ◌++◌, length, map, Option, None, Some}
+use Rattle.std.proofs.Common.{◌≡◌, refl, sym, ap, ◌∙◌, ℕ, ◌+◌, Bool, true, false, if◌then◌else◌, List, [], ◌∷◌, ◌++◌, length, Option, None, Some}
 use Rattle.std.specs.Prelude.{nat_lt, fold, position}
 use Rattle.std.proofs.lemmas.List.{map-append}
 use Rattle.dart_tree.specs.Unit.{UnitTree}

@@ -1,5 +1,5 @@
 -- What is read of each item of a list, and of what may be missing, where each item is as before.
-use Rattle.std.proofs.Common.{◌≡◌, refl, sym, ◌∙◌, ℕ, zero, suc, ◌+◌, Bool, not, ◌||◌, cond, List, [], ◌∷◌, ◌++◌, length, map, flat_map, slice_get, Option, None, Some}
+use Rattle.std.proofs.Common.{◌≡◌, refl, sym, ◌∙◌, ℕ, zero, suc, ◌+◌, Bool, not, ◌||◌, cond, List, [], ◌∷◌, ◌++◌, length, map, flat_map, slice_get, None, Some}
 use Rattle.std.specs.Prelude.{nat_lt, position, slice_get}
 use Rattle.std.specs.List.{list_any, position_or_len, AllZip}
 use Rattle.std.proofs.lemmas.List.{map-append}

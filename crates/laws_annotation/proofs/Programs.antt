@@ -1,7 +1,6 @@
 -- The program of erased units has the same declarations, and its names mean the same.
 use Rattle.std.proofs.Common.{◌≡◌, refl, sym, ap, ◌∙◌, subst, ℕ, List, [], ◌∷◌, ◌++◌, map}
 use Rattle.std.specs.Prelude.{flat_map, IsPermutation}
-use Rattle.std.specs.List.{AllZip, zip}
 use Rattle.dart_tree.specs.Unit.{UnitTree}
 use Rattle.dart_erase.specs.UnitErased as of_unit
 use Rattle.scope_declared.specs.Number.{number_of, library_place}

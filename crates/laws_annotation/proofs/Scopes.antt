@@ -16,10 +16,9 @@ use Rattle.scope_class.specs.Inside as inside
 use Rattle.scope_class.specs.Constructors.{constructor_of}
 use Rattle.dart_scope.specs.Program.{all_declared}
 use Rattle.lower_leaf.specs.declared.meaning.Outer.{Outer}
-use Rattle.lower_leaf.specs.Around.{Around}
-use Rattle.translation.specs.Surroundings.{Text, Meaning, Names, Tables, Made}
+use Rattle.translation.specs.Surroundings.{Text}
 use Rattle.scope_program.specs.Classes.{ClassScope, class_called, class_scopes}
-use Rattle.scope_program.specs.Program.{Scoping}
+use Rattle.scope_program.specs.Program.{Scoping, IsScoping}
 use Rattle.scope_program.specs.Around.{known_names, names_in, names_in_header, names_in_class, names_at, header_names_at, static_in, constructor_in, declared_tables, headers_around, members_around}
 use Rattle.laws_annotation.specs.Erased.{erased_state, erased_class, erased_scoping}
 use Rattle.laws_annotation.specs.Under.{IsScopingUnder}
@@ -46,6 +45,23 @@ scoping_goes table state s h = record {
   core = h.core ∙ ap (λ (homes : List ℕ). slice_index_or homes CORE_UNIT 0) (sym (homes_same state));
   main = h.main;
 }
+
+-- a scoping of a program is one under the table that its units spell
+under : (state : State) (s : Scoping) → IsScoping state s → IsScopingUnder s.texts state s
+under state s h = record {
+  texts = refl;
+  homes = h.homes;
+  numbered = h.numbered;
+  spaces = h.spaces;
+  are_libraries = h.are_libraries;
+  names = h.names;
+  classes = h.classes;
+  core = h.core;
+  main = h.main;
+}
+
+pub program_goes : (state : State) (s : Scoping) → IsScoping state s → IsScopingUnder s.texts (erased_state state) (erased_scoping s)
+program_goes state s h = scoping_goes s.texts state s (under state s h)
 
 -- ---- what is read of a scoping
 

@@ -1,27 +1,32 @@
 // Laws of erased programs: what of the names of a program doesn't depend on its annotations.
-ghost use Rattle.std.specs.Prelude.{◌≡◌, ℕ, List, map};
+ghost use Rattle.std.specs.Prelude.{◌≡◌, ℕ, List, map, true};
+ghost use Rattle.class_source.specs.Members.{names_super};
 ghost use Rattle.class_source.specs.Source.{Given, SourceUnit, classes_of};
 ghost use Rattle.dart_base.specs.declared.place.Place.{Place};
 ghost use Rattle.dart_class.specs.Given.{class_given, source_units};
 ghost use Rattle.dart_erase.specs.UnitErased as erased;
-ghost use Rattle.dart_tree.specs.Unit.{UnitTree};
+ghost use Rattle.dart_tree.specs.Unit.{Member, UnitTree};
 ghost use Rattle.dart_ir.specs.declared.class.Classes.{Classes};
 ghost use Rattle.dart_lower.specs.Given.{given_of};
 ghost use Rattle.dart_scope.specs.Making.{IsProgram};
 ghost use Rattle.dart_scope.specs.declared.program.Program.{Program};
 ghost use Rattle.laws_annotation.specs.Erased.{erased_scoping, erased_source, erased_state};
-ghost use Rattle.laws_annotation.specs.Loose.{loose_classes};
+ghost use Rattle.laws_annotation.specs.Loading.{GivenBy, GivenErasedBy};
+ghost use Rattle.laws_annotation.specs.Loose.{loose_classes, looser_classes};
+ghost use Rattle.laws_annotation.specs.Super.{KeepSuper};
 ghost use Rattle.laws_annotation.specs.Tables.{DifferInSignaturesAlone};
 ghost use Rattle.laws_annotation.specs.Under.{IsScopingUnder};
 ghost use Rattle.laws_translation.specs.Bare.{erased_given, lines};
 ghost use Rattle.scope_declared.specs.UnitDeclared.{unit_declares};
 ghost use Rattle.scope_library.specs.Library.{homes_of, libraries_of};
+ghost use Rattle.scope_load.specs.Found.{FoundIs};
+ghost use Rattle.scope_load.specs.Load.{Loads};
 ghost use Rattle.scope_load.specs.State.{State, after};
 ghost use Rattle.scope_load.specs.declared.units.UnitName.{UnitName};
 ghost use Rattle.scope_mention.specs.Head.{is_part_of, part_place};
 ghost use Rattle.scope_mention.specs.Mention.{mentions_of};
 ghost use Rattle.scope_program.specs.Around.{headers_around, members_around};
-ghost use Rattle.scope_program.specs.Program.{Scoping};
+ghost use Rattle.scope_program.specs.Program.{IsScoping, Scoping};
 ghost use Rattle.translation.specs.Surroundings.{Text};
 
 /// An erased unit declares exactly what the unit declares, in its order, each with its place, its kind and where it counts
@@ -46,6 +51,13 @@ pub fn loading_goes_on_alike()
         → after root (erased_state state) name (erased.unit x) weight ≡ erased_state (after root state name x weight) }
 {}
 
+/// Where a program is loaded from units, the erased program is loaded from the erased units, with the same names, links and
+/// weights, and no reason is against it.
+pub fn erased_programs_are_loaded()
+    ensures { (give : ℕ → UnitName → FoundIs) (root : List ℕ) (state : State) → Loads (GivenBy give) root state
+        → Loads (GivenErasedBy give) root (erased_state state) }
+{}
+
 /// An erased program has the same libraries, with the same parts, imports and exports, and each unit belongs to the same
 /// (ECMA-408, 18 Libraries and Scripts).
 pub fn libraries_are_kept()
@@ -63,7 +75,9 @@ pub fn programs_are_kept()
 /// Under one table of names, names mean in an erased program what they mean in the program, and its classes are those of the
 /// program but for the trees of their members (ECMA-408, 16.33 Identifier Reference).
 pub fn scopings_are_kept()
-    ensures { (table : List Text) (state : State) (s : Scoping) → IsScopingUnder table state s
+    ensures of_a_program { (state : State) (s : Scoping) → IsScoping state s
+        → IsScopingUnder s.texts (erased_state state) (erased_scoping s) }
+    ensures under_a_table { (table : List Text) (state : State) (s : Scoping) → IsScopingUnder table state s
         → IsScopingUnder table (erased_state state) (erased_scoping s) }
 {}
 
@@ -75,10 +89,18 @@ pub fn surroundings_are_kept()
 {}
 
 /// The classes that erased units declare are those of the units, row by row, but for the types in the signatures of members,
-/// and for whether a class names `super`, which may stand in parameters of a parameter (ECMA-408, 10 Classes).
+/// and for whether a class names `super`. Where erasure leaves `super` in each member that has it, they are those but for
+/// signatures (ECMA-408, 10 Classes, 12 Mixins).
 pub fn class_rows_are_kept()
-    ensures { (given : Given) (units : List SourceUnit)
+    ensures rows { (given : Given) (units : List SourceUnit)
+        → looser_classes (classes_of given (map erased_source units)) ≡ looser_classes (classes_of given units) }
+    ensures mixable { (given : Given) (units : List SourceUnit) → KeepSuper units
         → loose_classes (classes_of given (map erased_source units)) ≡ loose_classes (classes_of given units) }
+{}
+
+/// An erased member names `super` only where the member does: so erasure makes no class unfit as a mixin.
+pub fn super_is_not_added()
+    ensures { (x : Member) → names_super (erased.member x) ≡ true → names_super x ≡ true }
 {}
 
 /// The classes of an erased program are read with the same names and numbers, from the units of the program, erased
