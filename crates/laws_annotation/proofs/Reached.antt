@@ -89,10 +89,13 @@ module _ (Gives Others : Giving) (erases : (n : ℕ) (name : UnitName) (x : Unit
       (reason_same root state name x weight ∙ none))
 
   all_loaded : (state : State) → Loads Gives root state → Loads Others root (erased_state state)
-  all_loaded state (ends, small) = (record {
-    reached = reached state ends.reached;
-    all = subst (λ (n : ℕ). slice_get state.names n ≡ None) (sym (length_same of_unit.unit state.units)) ends.all;
-  }, small)
+  all_loaded state (ends, small) = (
+    record {
+      reached = reached state ends.reached;
+      all = subst (λ (n : ℕ). slice_get state.names n ≡ None) (sym (length_same of_unit.unit state.units)) ends.all;
+    },
+    small,
+  )
 
 pub loaded : (give : ℕ → UnitName → FoundIs) (root : List ℕ) (state : State) → Loads (GivenBy give) root state → Loads (GivenErasedBy give) root (erased_state state)
 loaded give root state h = all_loaded (GivenBy give) (GivenErasedBy give) (λ n name x weight e. ap erased_found e) root state h

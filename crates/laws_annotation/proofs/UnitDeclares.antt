@@ -76,11 +76,11 @@ module _ (n : List ℕ → ℕ) where
 
   operator_same : (extent : Extent) (x : u.OperatorMember) → d.operator_declares n extent (of_unit.operator_member x) ≡ d.operator_declares n extent x
   operator_same extent x = λ i. record {
-        name = record { 0 = n (operator_text x.name (no_parameters_same x.parameters i)) };
-        place = operator_place x.name;
-        kind = k.Operator;
-        extent = extent;
-      } ∷ (parameters_same n (body_end x.body i) x.parameters i ++ body_same n x.body i)
+    name = record { 0 = n (operator_text x.name (no_parameters_same x.parameters i)) };
+    place = operator_place x.name;
+    kind = k.Operator;
+    extent = extent;
+  } ∷ (parameters_same n (body_end x.body i) x.parameters i ++ body_same n x.body i)
 
   init_kind_same : (x : u.InitKind) → d.init_kind_declares n (of_unit.init_kind x) ≡ d.init_kind_declares n x
   init_kind_same (u.super_init word name given) = arguments_same n given
