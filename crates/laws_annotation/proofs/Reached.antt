@@ -1,5 +1,5 @@
 -- Loading comes to the erased program where it comes to the program.
-use Rattle.std.proofs.Common.{◌≡◌, refl, sym, ap, ◌∙◌, subst, ℕ, Bool, true, false, not, ◌&&◌, ◌||◌, if◌then◌else◌, List, length, map, slice_get, Option, None, Some}
+use Rattle.std.proofs.Common.{◌≡◌, refl, sym, ap, ◌∙◌, subst, ℕ, Bool, not, ◌&&◌, ◌||◌, if◌then◌else◌, List, length, map, slice_get, Option, None, Some}
 use Rattle.std.specs.Prelude.{nat_eq, find, unwrap_or}
 use Rattle.std.specs.Option.{option_map, option_and_then, option_or}
 use Rattle.dart_base.specs.declared.feature.Feature.{Feature}
@@ -7,17 +7,16 @@ use Rattle.dart_base.specs.declared.place.Place.{Place}
 use Rattle.dart_tree.specs.UnitView.{maybe}
 use Rattle.dart_tree.specs.Unit.{UnitTree}
 use Rattle.dart_erase.specs.UnitErased as of_unit
-use Rattle.scope_mention.specs.Head.{part_place, is_part, is_part_of}
-use Rattle.scope_mention.specs.Mention.{mentions_of}
+use Rattle.scope_mention.specs.Head.{part_place}
 use Rattle.scope_mention.specs.declared.mention.MentionKind.{MentionKind}
 use Rattle.scope_mention.specs.declared.mention.MentionKind.TheVariants.{Import, Export, Part}
 use Rattle.scope_load.specs.declared.loaded.Link.{Link}
 use Rattle.scope_load.specs.declared.reason.Reason.TheVariants.{LeftOut, BadDirective}
 use Rattle.scope_load.specs.declared.units.UnitName.{UnitName}
 use Rattle.scope_load.specs.Found.{FoundIs, read, Giving}
-use Rattle.scope_load.specs.Judge.{same_number, owner_of, is_no_part, leads_wrong, is_mismatch, is_wrong_to, is_wrong, wrong_link, root_part, left_out}
-use Rattle.scope_load.specs.Load.{Against, uri_reason, root_reason, link_reason, directive_reason, reason_against, Reaches, begins, turns, Loads}
-use Rattle.scope_load.specs.State.{State, after, start}
+use Rattle.scope_load.specs.Judge.{same_number, owner_of, is_no_part, leads_wrong, is_mismatch, is_wrong_to, wrong_link, root_part, left_out}
+use Rattle.scope_load.specs.Load.{uri_reason, directive_reason, reason_against, Reaches, begins, turns, Loads}
+use Rattle.scope_load.specs.State.{State, after}
 use Rattle.laws_annotation.specs.Erased.{erased_state}
 use Rattle.laws_annotation.specs.Loading.{erased_found, GivenBy, GivenErasedBy}
 use Rattle.laws_annotation.proofs.Mapped.{length_same, get_mapped}
