@@ -21,7 +21,8 @@ use Rattle.scope_program.specs.Classes.{ClassScope, class_called, class_scopes}
 use Rattle.scope_program.specs.Program.{Scoping, IsScoping}
 use Rattle.scope_program.specs.Around.{known_names, names_in, names_in_header, names_in_class, names_at, header_names_at, static_in, constructor_in, declared_tables, headers_around, members_around}
 use Rattle.laws_annotation.specs.Erased.{erased_state, erased_class, erased_scoping}
-use Rattle.laws_annotation.specs.Under.{IsScopingUnder}
+use Rattle.laws_scope.specs.Under.{IsScopingUnder}
+use Rattle.laws_scope.proofs.Scoped.{under}
 use Rattle.laws_annotation.proofs.Mapped.{length_same, get_mapped, position_same}
 use Rattle.laws_annotation.proofs.Libraries.{homes_same}
 use Rattle.laws_annotation.proofs.Entries.{libraries_go}
@@ -43,20 +44,6 @@ scoping_goes table state s h = record {
   classes = ap (map erased_class) h.classes ∙ sym (classes_same s.numbered (homes_of state) state.units)
       ∙ ap (λ (homes : List ℕ). class_scopes s.numbered homes (erased_state state).units) (sym (homes_same state));
   core = h.core ∙ ap (λ (homes : List ℕ). slice_index_or homes CORE_UNIT 0) (sym (homes_same state));
-  main = h.main;
-}
-
--- a scoping of a program is one under the table that its units spell
-under : (state : State) (s : Scoping) → IsScoping state s → IsScopingUnder s.texts state s
-under state s h = record {
-  texts = refl;
-  homes = h.homes;
-  numbered = h.numbered;
-  spaces = h.spaces;
-  are_libraries = h.are_libraries;
-  names = h.names;
-  classes = h.classes;
-  core = h.core;
   main = h.main;
 }
 

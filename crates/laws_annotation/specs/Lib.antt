@@ -1,5 +1,4 @@
 pub mod Erased
-pub mod Under
 pub mod Loose
 pub mod Tables
 pub mod Super

@@ -15,7 +15,7 @@ ghost use Rattle.laws_annotation.specs.Loading.{GivenBy, GivenErasedBy};
 ghost use Rattle.laws_annotation.specs.Loose.{loose_classes, looser_classes};
 ghost use Rattle.laws_annotation.specs.Super.{KeepSuper};
 ghost use Rattle.laws_annotation.specs.Tables.{DifferInSignaturesAlone};
-ghost use Rattle.laws_annotation.specs.Under.{IsScopingUnder};
+ghost use Rattle.laws_scope.specs.Under.{IsScopingUnder};
 ghost use Rattle.laws_translation.specs.Bare.{erased_given, lines};
 ghost use Rattle.scope_declared.specs.UnitDeclared.{unit_declares};
 ghost use Rattle.scope_library.specs.Library.{homes_of, libraries_of};
