@@ -1,4 +1,4 @@
--- Programs that are seen alike have one first header type that is refused, and for one reason.
+-- Programs of one shape have one first header type that is refused, and for one reason.
 use Rattle.std.proofs.Common.{◌≡◌, ℕ, ◌≤◌, ◌==◌, ◌&&◌, List, [], ◌∷◌, ◌++◌, map, true, not, cond, Option, Some, None, refl, sym, ap, ◌∙◌, subst as transport}
 use Rattle.std.proofs.lemmas.List.{map-append}
 use Rattle.class_order.specs.declared.header.Header.{Header}
@@ -15,6 +15,7 @@ use Rattle.class_fault.specs.Program.{class_named}
 use Rattle.class_fault.specs.Fault.{is_inherited, is_forbidden, is_object, is_plain, can_mix, is_bad_mixin, static_reason, IsVerdict, no_class, leads_back, decided, in_clause, extended, header_types, IsFirst, no_more, here, later, IsFirstFrom, past, in_class, in_later}
 use Rattle.class_within.specs.Seen as s
 use Rattle.class_within.specs.View as view
+use Rattle.laws_table.specs.Shape as shape
 use Rattle.laws_table.proofs.Like.{length_like, type_like, place_like, option_like, object_like, declarations_like}
 use Rattle.laws_table.proofs.Graphs.{there}
 
@@ -41,7 +42,7 @@ in_clause_shown clause [] = refl
 in_clause_shown clause (t ∷ ts) = ap (λ (z : List Shown). (clause, view.header_type t) ∷ z) (in_clause_shown clause ts)
 
 header_types_shown : (i : Declaration) → map shown (header_types i)
-    ≡ extended_seen (view.class i).superclass ++ with_clause With (view.class i).mixins ++ with_clause Implements (view.class i).interfaces
+    ≡ extended_seen (shape.class i).superclass ++ with_clause With (shape.class i).mixins ++ with_clause Implements (shape.class i).interfaces
 header_types_shown i =
     let a = extended_shown i.superclass in
     let m = in_clause_shown With i.mixins.items in
@@ -50,13 +51,13 @@ header_types_shown i =
     ∙ ap (λ (z : List Shown). z ++ map shown (in_clause Implements i.interfaces.items)) (map-append shown (extended i.superclass) (in_clause With i.mixins.items))
     ∙ (λ r. a r ++ m r ++ n r)
 
-header_types_like : (i j : Declaration) → view.class i ≡ view.class j → map shown (header_types i) ≡ map shown (header_types j)
+header_types_like : (i j : Declaration) → shape.class i ≡ shape.class j → map shown (header_types i) ≡ map shown (header_types j)
 header_types_like i j like =
     header_types_shown i
     ∙ ap (λ (c : s.Class). extended_seen c.superclass ++ with_clause With c.mixins ++ with_clause Implements c.interfaces) like
     ∙ sym (header_types_shown j)
 
-module _ (p q : Program) (same : view.program p ≡ view.program q) where
+module _ (p q : Program) (same : shape.program p ≡ shape.program q) where
   is_object_like : (o : Option ℕ) → is_object p o ≡ is_object q o
   is_object_like None = refl
   is_object_like (Some e) = ap (λ z. e == z) (object_like p q same)
@@ -67,7 +68,7 @@ module _ (p q : Program) (same : view.program p ≡ view.program q) where
       (λ t w f. ap (λ z. is_object p (class_named z)) (type_like t w f) ∙ is_object_like (class_named (ty w.of))) o u like
 
   -- class c names class n, and in the other program class d names class m
-  module _ (e : ℕ) (c d n m : Declaration) (one : view.class c ≡ view.class d) (two : view.class n ≡ view.class m) where
+  module _ (e : ℕ) (c d n m : Declaration) (one : shape.class c ≡ shape.class d) (two : shape.class n ≡ shape.class m) where
     forbidden_like : (clause : Clause) → is_forbidden p c e n clause ≡ is_forbidden q d e m clause
     forbidden_like clause =
         let a : c.standing ≡ d.standing = ap (λ (x : s.Class). x.standing) one in
@@ -130,7 +131,7 @@ module _ (p q : Program) (same : view.program p ≡ view.program q) where
 
     pub first_from_like : (d : ℕ) (f : Option Fault) → IsFirstFrom p hs d f → IsFirstFrom q hs d f
     first_from_like _ _ (past d l) =
-        past d (transport (λ z. z ≤ d) (length_like view.class p.declarations.items q.declarations.items (declarations_like p q same)) l)
+        past d (transport (λ z. z ≤ d) (length_like shape.class p.declarations.items q.declarations.items (declarations_like p q same)) l)
     first_from_like _ _ (in_class d i f at v) =
         let j = there p q same d i at in
         in_class d j.0 f j.1 (first_like d (header_types i) (header_types j.0) (Some f) (header_types_like i j.0 j.2) v)

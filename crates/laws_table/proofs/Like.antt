@@ -1,4 +1,4 @@
--- Declarations that are seen alike: what is read of them is the same.
+-- Declarations of one shape: what is read of them is the same.
 use Rattle.std.proofs.Common.{◌≡◌, ℕ, ◌-◌, ◌==◌, ◌&&◌, ◌||◌, List, [], ◌∷◌, ◌++◌, map, length, Bool, false, cond, Option, Some, None, refl, sym, ap, ◌∙◌}
 use Rattle.std.proofs.lemmas.List.{length-map}
 use Rattle.dart_base.specs.declared.name.Name.{Name}
@@ -11,6 +11,7 @@ use Rattle.class_fault.specs.Program.{class_named, is_method, has_method, declar
 use Rattle.class_fault.specs.Graph.{class_before, named_classes, superclass_named, function_if, above_of, applied}
 use Rattle.class_within.specs.Seen as s
 use Rattle.class_within.specs.View as view
+use Rattle.laws_table.specs.Shape as shape
 
 pub length_like : {A B : Type 0} (show : A → B) (xs ys : List A) → map show xs ≡ map show ys → length xs ≡ length ys
 length_like show xs ys e = sym (length-map xs show) ∙ ap length e ∙ length-map ys show
@@ -48,20 +49,20 @@ abbrev method_seen : ℕ → List s.Member → Bool
 method_seen name [] = false
 method_seen name (m ∷ ms) = (m.name == name && is_method m.role) || method_seen name ms
 
-method_read : (name : Name) (ms : List Member) → has_method name ms ≡ method_seen name.0 (map view.member ms)
+method_read : (name : Name) (ms : List Member) → has_method name ms ≡ method_seen name.0 (map shape.member ms)
 method_read name [] = refl
 method_read name (m ∷ ms) = ap (λ b. (m.name.0 == name.0 && is_method m.role) || b) (method_read name ms)
 
 -- ---- the declarations of two programs
 
-module _ (p q : Program) (same : view.program p ≡ view.program q) where
+module _ (p q : Program) (same : shape.program p ≡ shape.program q) where
   pub object_like : p.object ≡ q.object
   object_like = ap (λ (z : s.Program). z.object) same
 
   pub function_like : p.function ≡ q.function
   function_like = ap (λ (z : s.Program). z.function) same
 
-  pub declarations_like : map view.class p.declarations.items ≡ map view.class q.declarations.items
+  pub declarations_like : map shape.class p.declarations.items ≡ map shape.class q.declarations.items
   declarations_like = ap (λ (z : s.Program). z.classes) same
 
   pub superclass_named_like : (d : ℕ) (o u : Option HeaderType) → view.superclass o ≡ view.superclass u → superclass_named p d o ≡ superclass_named q d u
@@ -69,11 +70,11 @@ module _ (p q : Program) (same : view.program p ≡ view.program q) where
       option_like (superclass_named p d) (superclass_named q d) (ap (λ z. cond (d == z) [] (z ∷ [])) object_like)
       (λ t w f. ap (λ z. class_before (class_named z) []) (type_like t w f)) o u e
 
-  module _ (i j : Declaration) (like : view.class i ≡ view.class j) where
+  module _ (i j : Declaration) (like : shape.class i ≡ shape.class j) where
     pub declares_call_like : declares_call p.call i ≡ declares_call q.call j
     declares_call_like =
         method_read p.call i.members.items
-        ∙ ap (λ n. method_seen n (map view.member i.members.items)) (ap (λ (z : s.Program). z.call) same)
+        ∙ ap (λ n. method_seen n (map shape.member i.members.items)) (ap (λ (z : s.Program). z.call) same)
         ∙ ap (λ (c : s.Class). method_seen q.call.0 c.members) like
         ∙ sym (method_read q.call j.members.items)
 

@@ -20,6 +20,8 @@ use Rattle.class_table.specs.Rows.{parameters_from, renumbered_types, own_superc
 use Rattle.class_table.specs.Members.{Described, declared_in, mixin_members, row_members, AreMembers}
 use Rattle.class_within.specs.Seen as s
 use Rattle.class_within.specs.View as view
+use Rattle.laws_class.proofs.Sizes.{other}
+use Rattle.laws_table.specs.Shape as shape
 use Rattle.laws_table.proofs.Like.{length_like, type_like, place_like, option_like, object_like, applied_like, declares_call_like}
 use Rattle.laws_table.proofs.Graphs.{there}
 
@@ -76,8 +78,8 @@ superclass_map (Some t) = refl
 mixin_read : (ts : List HeaderType) (n : ℕ) → view.superclass (slice_get ts n) ≡ slice_get (map view.header_type ts) n
 mixin_read ts n = sym (superclass_map (slice_get ts n)) ∙ sym (slice_get-map view.header_type ts n)
 
-module _ (p q : Program) (same : view.program p ≡ view.program q) (i j : Declaration) (like : view.class i ≡ view.class j) where
-  mixin_like : (n : ℕ) → view.superclass (slice_get i.mixins.items n) ≡ view.superclass (slice_get j.mixins.items n)
+module _ (p q : Program) (same : shape.program p ≡ shape.program q) (i j : Declaration) (like : shape.class i ≡ shape.class j) where
+  pub mixin_like : (n : ℕ) → view.superclass (slice_get i.mixins.items n) ≡ view.superclass (slice_get j.mixins.items n)
   mixin_like n = mixin_read i.mixins.items n ∙ ap (λ (c : s.Class). slice_get c.mixins n) like ∙ sym (mixin_read j.mixins.items n)
 
   place_is : i.place ≡ j.place
@@ -172,16 +174,40 @@ module _ (p q : Program) (same : view.program p ≡ view.program q) (i j : Decla
       fields = row.fields ∙ sym (fields_like before d n c);
     }
 
-    row_members_like : (ms : List MemberInfo) (is : List ClassInfo) (c n : ℕ)
-        → row_members ms is ns c i (slice_get i.mixins.items n) ≡ row_members ms is ns c j (slice_get j.mixins.items n)
-    row_members_like ms is c n =
-        option_like (row_members ms is ns c i) (row_members ms is ns c j)
-        (declared_read ns c i.members.items
-        ∙ ap (λ (x : s.Class). map (λ m. Some (declared_seen ns c m)) x.members) like
-        ∙ sym (declared_read ns c j.members.items))
-        (λ t u e. ap (λ z. mixin_members ms is c (renumbered ns z)) (type_like t u e)) (slice_get i.mixins.items n) (slice_get j.mixins.items n) (mixin_like n)
+-- ---- programs that are seen alike, signatures included
 
-module _ (p q : Program) (same : view.program p ≡ view.program q) (ns : List ℕ) (rs : List Row) (n : ℕ) (is : List ClassInfo) where
+members_shaped : (ms : List Member) → map shape.member ms ≡ map shape.loose_member (map view.member ms)
+members_shaped [] = refl
+members_shaped (m ∷ ms) = ap (λ (z : List s.Member). shape.member m ∷ z) (members_shaped ms)
+
+pub class_shaped : (i : Declaration) → shape.class i ≡ shape.loose_class (view.class i)
+class_shaped i = ap (λ (z : List s.Member). let c : s.Class = record (view.class i) { members = z } in c) (members_shaped i.members.items)
+
+pub class_like : (i j : Declaration) → view.class i ≡ view.class j → shape.class i ≡ shape.class j
+class_like i j like = class_shaped i ∙ ap shape.loose_class like ∙ sym (class_shaped j)
+
+classes_shaped : (is : List Declaration) → map shape.class is ≡ map shape.loose_class (map view.class is)
+classes_shaped [] = refl
+classes_shaped (i ∷ is) = λ r. class_shaped i r ∷ classes_shaped is r
+
+pub program_shaped : (p : Program) → shape.program p ≡ shape.loose_program (view.program p)
+program_shaped p = ap (λ (z : List s.Class). let q : s.Program = record (view.program p) { classes = z } in q) (classes_shaped p.declarations.items)
+
+pub program_like : (p q : Program) → view.program p ≡ view.program q → shape.program p ≡ shape.program q
+program_like p q same = program_shaped p ∙ ap shape.loose_program same ∙ sym (program_shaped q)
+
+module _ (p q : Program) (same : view.program p ≡ view.program q) (ns : List ℕ) where
+  row_members_like : (i j : Declaration) → view.class i ≡ view.class j → (ms : List MemberInfo) (is : List ClassInfo) (c n : ℕ)
+      → row_members ms is ns c i (slice_get i.mixins.items n) ≡ row_members ms is ns c j (slice_get j.mixins.items n)
+  row_members_like i j like ms is c n =
+      option_like (row_members ms is ns c i) (row_members ms is ns c j)
+      (declared_read ns c i.members.items
+      ∙ ap (λ (x : s.Class). map (λ m. Some (declared_seen ns c m)) x.members) like
+      ∙ sym (declared_read ns c j.members.items))
+      (λ t u e. ap (λ z. mixin_members ms is c (renumbered ns z)) (type_like t u e)) (slice_get i.mixins.items n) (slice_get j.mixins.items n)
+      (mixin_like p q (program_like p q same) i j (class_like i j like) n)
+
+module _ (p q : Program) (same : shape.program p ≡ shape.program q) (ns : List ℕ) (rs : List Row) (n : ℕ) (is : List ClassInfo) where
   pub table_like : IsTable q ns rs n is → IsTable p ns rs n is
   table_like t = record {
     size = t.size;
@@ -190,13 +216,14 @@ module _ (p q : Program) (same : view.program p ≡ view.program q) (ns : List �
         row_like p q same i j.0 j.2 ns (take c is) (row_at rs c).class (row_at rs c).step c info (t.rows c j.0 info j.1 f);
   }
 
+module _ (p q : Program) (same : view.program p ≡ view.program q) (ns : List ℕ) (rs : List Row) (n : ℕ) (is : List ClassInfo) where
   pub members_like : (ms : List MemberInfo) → AreMembers q ns rs n is ms → AreMembers p ns rs n is ms
   members_like ms a = record {
     listed = a.listed;
     owned = a.owned;
     rows = λ c i info at f.
-        let j = there p q same (row_at rs c).class i at in
-        a.rows c j.0 info j.1 f ∙ sym (row_members_like p q same i j.0 j.2 ns ms (take c is) c (row_at rs c).step);
+        let j = other view.class p.declarations.items q.declarations.items (ap (λ (z : s.Program). z.classes) same) (row_at rs c).class i at in
+        a.rows c j.0 info j.1 f ∙ sym (row_members_like p q same ns i j.0 j.2 ms (take c is) c (row_at rs c).step);
     numbered = a.numbered;
     total = a.total;
   }

@@ -14,10 +14,10 @@ use Rattle.class_size.specs.Size.{IsTooLarge, option_list, header_list, user_typ
 use Rattle.class_size.specs.Built.{IsSizedTo}
 use Rattle.class_within.specs.Seen as s
 use Rattle.class_within.specs.View as view
-use Rattle.laws_table.proofs.Like.{type_like, place_like, function_like, declarations_like}
+use Rattle.laws_table.proofs.Like.{type_like, place_like, function_like}
 use Rattle.laws_table.proofs.Graphs.{graph_like}
 use Rattle.laws_table.proofs.Faults.{first_from_like}
-use Rattle.laws_table.proofs.Rows.{table_like, members_like}
+use Rattle.laws_table.proofs.Rows.{program_like, table_like, members_like}
 
 abbrev option_seen : Option s.HeaderType → List s.HeaderType
 option_seen None = []
@@ -77,24 +77,24 @@ module _ (p q : Program) (same : view.program p ≡ view.program q) where
     headers = b.headers;
     rows = b.rows;
     numbers = b.numbers;
-    graph = graph_like p q same b.headers b.graph;
-    no_fault = first_from_like q p (sym same) b.headers 0 None b.no_fault;
+    graph = graph_like p q (program_like p q same) b.headers b.graph;
+    no_fault = first_from_like q p (sym (program_like p q same)) b.headers 0 None b.no_fault;
     are_rows = b.are_rows;
-    table = table_like p q same b.numbers b.rows (length b.rows) k.classes.items b.table;
+    table = table_like p q (program_like p q same) b.numbers b.rows (length b.rows) k.classes.items b.table;
     members = members_like p q same b.numbers b.rows (length b.rows) k.classes.items k.members.items b.members;
-    function = b.function ∙ sym (ap (λ z. get_or b.numbers z 0) (function_like p q same));
+    function = b.function ∙ sym (ap (λ z. get_or b.numbers z 0) (function_like p q (program_like p q same)));
   }
 
   pub refused_like : (f : Fault) → IsRefused q f → IsRefused p f
   refused_like f r = record {
     headers = r.headers;
-    graph = graph_like p q same r.headers r.graph;
-    first = first_from_like q p (sym same) r.headers 0 (Some f) r.first;
+    graph = graph_like p q (program_like p q same) r.headers r.graph;
+    first = first_from_like q p (sym (program_like p q same)) r.headers 0 (Some f) r.first;
   }
 
   pub sized_like : (k : Classes) (found : Option Place) → IsSizedTo q k found → IsSizedTo p k found
   sized_like k found a = record {
     table = built_like k a.table;
     first = first_like k a.table.numbers (all_user_types q.declarations.items) (all_user_types p.declarations.items) found
-        (users_read q.declarations.items ∙ sym (ap users_seen (declarations_like p q same)) ∙ sym (users_read p.declarations.items)) a.first;
+        (users_read q.declarations.items ∙ sym (ap (λ (z : s.Program). users_seen z.classes) same) ∙ sym (users_read p.declarations.items)) a.first;
   }
