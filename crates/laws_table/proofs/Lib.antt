@@ -4,4 +4,6 @@ mod Faults
 mod Rows
 mod Sizes
 mod Declared
+mod Loosened
+pub mod Shapes
 pub mod Laws

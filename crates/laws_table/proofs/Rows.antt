@@ -54,7 +54,7 @@ types_read ns (t ∷ ts) = ap (λ (z : List Ty). renumbered ns (ty t.of) ∷ z) 
 
 -- ---- members
 
-abbrev declared_seen : List ℕ → ℕ → s.Member → Described
+abbrev pub declared_seen : List ℕ → ℕ → s.Member → Described
 declared_seen ns c m = record {
   name = m.name;
   role = m.role;

@@ -14,6 +14,7 @@ use Rattle.class_size.specs.Size.{IsTooLarge, option_list, header_list, user_typ
 use Rattle.class_size.specs.Built.{IsSizedTo}
 use Rattle.class_within.specs.Seen as s
 use Rattle.class_within.specs.View as view
+use Rattle.laws_table.specs.Shape as shape
 use Rattle.laws_table.proofs.Like.{type_like, place_like, function_like}
 use Rattle.laws_table.proofs.Graphs.{graph_like}
 use Rattle.laws_table.proofs.Faults.{first_from_like}
@@ -71,6 +72,13 @@ module _ (k : Classes) (ns : List ℕ) where
       let b : map view.header_type ts ≡ map view.header_type us = cc in
       later u us found (λ l. h (large_like u t (sym a) l)) (first_like ts us found b m)
 
+pub refused_shape : (p q : Program) → shape.program p ≡ shape.program q → (f : Fault) → IsRefused q f → IsRefused p f
+refused_shape p q same f r = record {
+  headers = r.headers;
+  graph = graph_like p q same r.headers r.graph;
+  first = first_from_like q p (sym same) r.headers 0 (Some f) r.first;
+}
+
 module _ (p q : Program) (same : view.program p ≡ view.program q) where
   abbrev pub built_like : (k : Classes) → IsBuilt q k → IsBuilt p k
   built_like k b = record {
@@ -86,11 +94,7 @@ module _ (p q : Program) (same : view.program p ≡ view.program q) where
   }
 
   pub refused_like : (f : Fault) → IsRefused q f → IsRefused p f
-  refused_like f r = record {
-    headers = r.headers;
-    graph = graph_like p q (program_like p q same) r.headers r.graph;
-    first = first_from_like q p (sym (program_like p q same)) r.headers 0 (Some f) r.first;
-  }
+  refused_like f r = refused_shape p q (program_like p q same) f r
 
   pub sized_like : (k : Classes) (found : Option Place) → IsSizedTo q k found → IsSizedTo p k found
   sized_like k found a = record {

@@ -3,3 +3,4 @@
 
 pub mod alike;
 pub mod law;
+pub mod shape;
