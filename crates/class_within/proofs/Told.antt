@@ -41,14 +41,14 @@ module _ (texts : List Text) where
 
   -- ---- what is said with texts for names, with their numbers
 
-  abbrev header_type : r.HeaderType → s.HeaderType
+  abbrev pub header_type : r.HeaderType → s.HeaderType
   header_type t = record { place = t.place; of = named.ty (number_at texts) t.of }
 
-  abbrev superclass : Option r.HeaderType → Option s.HeaderType
+  abbrev pub superclass : Option r.HeaderType → Option s.HeaderType
   superclass None = None
   superclass (Some t) = Some (header_type t)
 
-  abbrev member : r.Member → s.Member
+  abbrev pub member : r.Member → s.Member
   member m = record {
     name = number_at texts m.name;
     role = m.role;
@@ -58,7 +58,7 @@ module _ (texts : List Text) where
     has_body = m.has_body;
   }
 
-  abbrev class : r.Class → s.Class
+  abbrev pub class : r.Class → s.Class
   class x = record {
     name = number_at texts x.name;
     library = x.library;
@@ -132,11 +132,11 @@ module _ (texts : List Text) where
         recursion_from_All (λ n. number_at texts (text_at texts n) ≡ n) (program_names (view.program p))
         (All-weaker (λ n. n < length texts) (λ n. number_at texts (text_at texts n) ≡ n) (number_back texts distinct) (program_names (view.program p)) within)
 
-    classes_back : (p : Program) → AreWithin (length texts) p → map class (map (source.class texts) p.declarations.items) ≡ map view.class p.declarations.items
+    pub classes_back : (p : Program) → AreWithin (length texts) p → map class (map (source.class texts) p.declarations.items) ≡ map view.class p.declarations.items
     classes_back p within =
         all_back class_names view.class (source.class texts) class class_back p.declarations.items (back_within p within).1
 
-    call_back : (p : Program) → AreWithin (length texts) p → number_at texts (text_at texts p.call.0) ≡ p.call.0
+    pub call_back : (p : Program) → AreWithin (length texts) p → number_at texts (text_at texts p.call.0) ≡ p.call.0
     call_back p within = (back_within p within).0
 
     pub same_program : (given : Given) (units : List SourceUnit) (p q : Program) → source.IsSource given units texts p → source.IsSource given units texts q

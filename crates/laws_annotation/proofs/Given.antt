@@ -68,7 +68,7 @@ module _ (s : Scoping) where
   written_same : (c : ClassScope) → written_of s (erased_class c) ≡ written_of s c
   written_same c = λ i. written_class s.texts s.numbered c.declaration (accessor_count_same c.members i) (has_constructor_same c.members i) (makings_same c.members i)
 
-  source_same : source_of (erased_scoping s) ≡ source_of s
+  pub source_same : source_of (erased_scoping s) ≡ source_of s
   source_same = λ i. record {
     declarations = map_same erased_class (λ (c : ClassScope). c.declaration) (λ c. refl) s.classes i;
     mixed = map_same erased_class (λ (c : ClassScope). c.is_mixed) (λ c. refl) s.classes i;

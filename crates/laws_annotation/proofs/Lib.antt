@@ -17,3 +17,4 @@ mod Given
 mod Supers
 mod Mixable
 mod Reached
+mod Tabled

@@ -18,7 +18,7 @@ use Rattle.translation.specs.Declarations.{Declared, count, parameter_count, fun
 use Rattle.translation.specs.Classes.{is_static, external_of, operator_word, operator_declared}
 use Rattle.class_source.specs.Rows.{Member}
 use Rattle.class_source.specs.Members.{is_written, Numbers, function_member, accessor_role, field_members, more_words, variable_words, variable_members, declared_by, instance_members, field_words, fields_of_member, field_count, constructor_external, written_external, is_external_member, is_constructor_member}
-use Rattle.laws_annotation.specs.Loose.{loose_member}
+use Rattle.laws_table.specs.Loose.{loose_member}
 use Rattle.laws_annotation.proofs.Mapped.{flat_same, any_same}
 use Rattle.laws_annotation.proofs.Classes.{final_same, constructor_kind_same}
 use Rattle.laws_annotation.proofs.Signatures.{signature_same}

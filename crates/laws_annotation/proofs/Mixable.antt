@@ -10,7 +10,7 @@ use Rattle.class_source.specs.Rows.{Class, Classes}
 use Rattle.class_source.specs.Members.{names_super}
 use Rattle.class_source.specs.Source.{SourceUnit, Given, declared_class, declared_classes, unit_classes, classes_of}
 use Rattle.laws_annotation.specs.Erased.{erased_source}
-use Rattle.laws_annotation.specs.Loose.{loose_class, loose_classes, looser_class, looser_classes}
+use Rattle.laws_table.specs.Loose.{loose_class, loose_classes, looser_class, looser_classes}
 use Rattle.laws_annotation.specs.Super.{KeepsSuper, members_declared, unit_members, KeepSuper}
 use Rattle.laws_annotation.proofs.Classes.{members_same}
 use Rattle.laws_annotation.proofs.Supers.{super_same}

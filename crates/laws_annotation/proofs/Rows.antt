@@ -16,7 +16,7 @@ use Rattle.class_source.specs.Members.{instance_members, field_count, is_externa
 use Rattle.class_source.specs.Headers.{named, bound, bounds}
 use Rattle.class_source.specs.Source.{SourceUnit, Given, reading, is_basic, class_row, declared_class, declared_classes, unit_classes, class_called, core_library, classes_of}
 use Rattle.laws_annotation.specs.Erased.{erased_source}
-use Rattle.laws_annotation.specs.Loose.{loose_member, looser_class, looser_classes}
+use Rattle.laws_table.specs.Loose.{loose_member, looser_class, looser_classes}
 use Rattle.laws_annotation.proofs.Mapped.{map_same, length_same}
 use Rattle.laws_annotation.proofs.Classes.{mixed_same, members_same}
 use Rattle.laws_annotation.proofs.Members.{members_alike, field_count_same, external_same, constructors_same}

@@ -2,6 +2,8 @@
 ghost use Rattle.std.specs.Prelude.{◌≡◌, ℕ, List, map, true};
 ghost use Rattle.class_source.specs.Members.{names_super};
 ghost use Rattle.class_source.specs.Source.{Given, SourceUnit, classes_of};
+ghost use Rattle.class_within.specs.Built.{IsTableFrom};
+ghost use Rattle.dart_base.specs.Names.{AreDistinct};
 ghost use Rattle.dart_base.specs.declared.place.Place.{Place};
 ghost use Rattle.dart_class.specs.Given.{class_given, source_units};
 ghost use Rattle.dart_erase.specs.UnitErased as erased;
@@ -12,7 +14,8 @@ ghost use Rattle.dart_scope.specs.Making.{IsProgram};
 ghost use Rattle.dart_scope.specs.declared.program.Program.{Program};
 ghost use Rattle.laws_annotation.specs.Erased.{erased_scoping, erased_source, erased_state};
 ghost use Rattle.laws_annotation.specs.Loading.{GivenBy, GivenErasedBy};
-ghost use Rattle.laws_annotation.specs.Loose.{loose_classes, looser_classes};
+ghost use Rattle.laws_table.specs.Loose.{loose_classes, looser_classes};
+ghost use Rattle.laws_table.specs.Roots.{DeclaresRoots};
 ghost use Rattle.laws_annotation.specs.Super.{KeepSuper};
 ghost use Rattle.laws_annotation.specs.Tables.{DifferInSignaturesAlone};
 ghost use Rattle.laws_scope.specs.Under.{IsScopingUnder};
@@ -27,6 +30,7 @@ ghost use Rattle.scope_mention.specs.Head.{is_part_of, part_place};
 ghost use Rattle.scope_mention.specs.Mention.{mentions_of};
 ghost use Rattle.scope_program.specs.Around.{headers_around, members_around};
 ghost use Rattle.scope_program.specs.Program.{IsScoping, Scoping};
+ghost use Rattle.table_accessor.specs.Numbered.{IsNumbered};
 ghost use Rattle.translation.specs.Surroundings.{Text};
 
 /// An erased unit declares exactly what the unit declares, in its order, each with its place, its kind and where it counts
@@ -115,4 +119,15 @@ pub fn classes_are_read_alike()
 pub fn translated_programs_differ_in_annotations()
     ensures { (s : Scoping) (state : State) (k l : Classes) (main : ℕ) → DifferInSignaturesAlone s.texts l k
         → lines (given_of (erased_scoping s) (erased_state state) l main) ≡ lines (erased_given (given_of s state k main)) }
+{}
+
+/// Under one table of names, the table of the classes of the erased program differs from that of the program in the types of
+/// signatures alone, its implicit accessors included, where erasure leaves `super` in each member that has it (ECMA-408, 10
+/// Classes).
+pub fn tables_differ_in_signatures()
+    ensures { (s : Scoping) (state : State) (built other k l : Classes) → AreDistinct s.texts → KeepSuper (source_units state)
+        → DeclaresRoots (classes_of (class_given s) (source_units state))
+        → IsTableFrom (class_given s) (source_units state) s.texts built → IsNumbered s built k
+        → IsTableFrom (class_given (erased_scoping s)) (source_units (erased_state state)) s.texts other
+        → IsNumbered (erased_scoping s) other l → DifferInSignaturesAlone s.texts l k }
 {}

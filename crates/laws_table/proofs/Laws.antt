@@ -21,7 +21,11 @@ use Rattle.laws_class.proofs.Tables.{table_one}
 use Rattle.laws_class.proofs.Faults.{not_both, fault_one}
 use Rattle.laws_class.proofs.Sizes.{place_one}
 use Rattle.laws_table.specs.Roots.{DeclaresRoots}
-use Rattle.laws_table.proofs.Sizes.{built_like, refused_like, sized_like}
+use Rattle.laws_table.specs.Loose.{loose_classes}
+use Rattle.laws_table.specs.Shape.{IsSameShape}
+use Rattle.laws_table.proofs.Rowed.{same_shape}
+use Rattle.laws_table.proofs.Shapes.{shape_one}
+use Rattle.laws_table.proofs.Sizes.{built_like, refused_like, refused_shape, sized_like}
 use Rattle.laws_table.proofs.Declared.{are_listed}
 
 module _ (given : Given) (units : List SourceUnit) (texts : List Text) where
@@ -66,3 +70,18 @@ module _ (given : Given) (units : List SourceUnit) (texts : List Text) where
     pub no_large_type_with_a_fault : (f : Fault) (place : Place) → IsFaultFrom given units texts f → IsLargeFrom given units texts place → ⊥
     no_large_type_with_a_fault f place (p, a, v, x) (q, b, w, (l, y)) =
         not_both q l f y.table (refused_like q p (alike q p b a w v) f x)
+
+-- units whose classes differ in the types of signatures alone
+module _ (given : Given) (units others : List SourceUnit) (texts : List Text) (distinct : AreDistinct texts)
+    (same : loose_classes (classes_of given others) ≡ loose_classes (classes_of given units)) where
+  pub tables_of_a_shape : (k l : Classes) → DeclaresRoots (classes_of given units) → IsTableFrom given units texts k → IsTableFrom given others texts l → IsSameShape k l
+  tables_of_a_shape k l roots (p, a, v, x) (q, b, w, y) =
+      shape_one p q (same_shape texts distinct given units others same p q a b v w) k l x.table y.table (names_declared given units texts p k x.table a roots)
+
+  pub fault_of_a_shape : (f g : Fault) → IsFaultFrom given units texts f → IsFaultFrom given others texts g → f ≡ g
+  fault_of_a_shape f g (p, a, v, x) (q, b, w, y) =
+      fault_one p f g x (refused_shape p q (same_shape texts distinct given units others same p q a b v w) g y)
+
+  pub no_fault_of_a_shape : (k : Classes) (f : Fault) → IsTableFrom given units texts k → IsFaultFrom given others texts f → ⊥
+  no_fault_of_a_shape k f (p, a, v, x) (q, b, w, y) =
+      not_both p k f x.table (refused_shape p q (same_shape texts distinct given units others same p q a b v w) f y)

@@ -6,4 +6,5 @@ mod Sizes
 mod Declared
 mod Loosened
 pub mod Shapes
+pub mod Rowed
 pub mod Laws

@@ -186,7 +186,7 @@ class_shaped i = ap (λ (z : List s.Member). let c : s.Class = record (view.clas
 pub class_like : (i j : Declaration) → view.class i ≡ view.class j → shape.class i ≡ shape.class j
 class_like i j like = class_shaped i ∙ ap shape.loose_class like ∙ sym (class_shaped j)
 
-classes_shaped : (is : List Declaration) → map shape.class is ≡ map shape.loose_class (map view.class is)
+pub classes_shaped : (is : List Declaration) → map shape.class is ≡ map shape.loose_class (map view.class is)
 classes_shaped [] = refl
 classes_shaped (i ∷ is) = λ r. class_shaped i r ∷ classes_shaped is r
 

@@ -1,2 +1,3 @@
 pub mod Roots
 pub mod Shape
+pub mod Loose

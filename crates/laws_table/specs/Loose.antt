@@ -1,4 +1,4 @@
--- The classes of a program without what erasure may change of them: the types in the signatures of their members, and whether
+-- Class declarations without what erasure may change of them: the types in the signatures of their members, and whether
 -- their members name `super`, which may stand in parameters of a parameter, where erasure drops it.
 use Rattle.std.specs.Prelude.{map, false}
 use Rattle.core_program.specs.Stripped as stripped
