@@ -15,7 +15,7 @@ use Rattle.translation.specs.Surroundings.{Text}
 use Rattle.class_source.specs.Source.{SourceUnit, Given, classes_of}
 use Rattle.class_within.specs.Built.{IsTableFrom}
 use Rattle.dart_class.specs.Given.{class_given, source_units}
-use Rattle.lower_table.specs.Rows.{Rows, rows_of, starts_of}
+use Rattle.lower_table.specs.Rows.{rows_of, starts_of}
 use Rattle.lower_table.specs.Table.{source_of}
 use Rattle.table_accessor.specs.Numbered.{is_induced, start_at, next_in, with_number, number_after, numbered_from, all_numbered, members_numbered, IsNumbered}
 use Rattle.laws_table.specs.Roots.{DeclaresRoots}
