@@ -1,12 +1,11 @@
 -- Signatures without their types: other numbers for classes, and type arguments that are put in, change nothing then.
-use Rattle.std.proofs.Common.{◌≡◌, ℕ, List, [], ◌∷◌, map, option_map, Option, Some, None, refl, sym, ap, ◌∙◌}
+use Rattle.std.proofs.Common.{◌≡◌, ℕ, List, [], ◌∷◌, map, option_map, Option, Some, None, refl}
 use Rattle.dart_ir.specs.Ty.{Ty, Tys, NamedTys, dynamic, bottom, void, class, parameter, function, nil, cons, unnamed, named, function_ty}
 use Rattle.dart_type.specs.Instance.{instance, instances, named_instances}
 use Rattle.core_program.specs.Stripped.{loose, all_dynamic, all_named_dynamic}
 use Rattle.class_fault.specs.declared.program.Member.{Member}
 use Rattle.class_table.specs.Renumbered.{renumbered, renumbered_all, renumbered_named}
 use Rattle.class_table.specs.Members.{Described, declared_in, mixed_in}
-use Rattle.class_within.specs.Seen as s
 use Rattle.laws_table.specs.Shape as shape
 use Rattle.laws_table.proofs.Rows.{declared_seen}
 

@@ -1,9 +1,8 @@
 -- Programs of one shape, from class declarations in which names are texts.
-use Rattle.std.proofs.Common.{◌≡◌, ℕ, List, [], ◌∷◌, map, length, refl, sym, ap, ◌∙◌}
+use Rattle.std.proofs.Common.{◌≡◌, List, [], ◌∷◌, map, length, refl, sym, ap, ◌∙◌}
 use Rattle.dart_base.specs.Names.{AreDistinct}
 use Rattle.dart_ir.specs.Ty.{TyOf, TysOf, NamedTysOf, dynamic, bottom, void, class as class_ty, parameter, function, nil, cons, unnamed, named}
 use Rattle.core_program.specs.Named as names
-use Rattle.core_program.specs.ProgramView.{text_at}
 use Rattle.core_program.specs.Stripped.{loose, all_dynamic, all_named_dynamic}
 use Rattle.core_names.specs.Within.{number_at}
 use Rattle.class_fault.specs.declared.program.Program.{Program}
@@ -11,8 +10,6 @@ use Rattle.translation.specs.Surroundings.{Text}
 use Rattle.class_source.specs.Rows as r
 use Rattle.class_source.specs.Source.{SourceUnit, Given, classes_of}
 use Rattle.class_source.specs.View as source
-use Rattle.class_within.specs.Seen as s
-use Rattle.class_within.specs.View as view
 use Rattle.class_within.specs.Within.{AreWithin}
 use Rattle.class_within.proofs.Told as told
 use Rattle.laws_table.specs.Loose as l
