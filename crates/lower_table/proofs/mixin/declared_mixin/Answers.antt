@@ -1,4 +1,4 @@
-use Rattle.std.proofs.Common.{◌≡◌, ◌∙◌, ◌+◌, ◌-◌, ℕ, suc, length, Option, arith, sym, ap}
+use Rattle.std.proofs.Common.{◌≡◌, ◌∙◌, ◌+◌, ◌-◌, suc, length, Option, arith, sym, ap}
 use Rattle.std.specs.Option.{option_map, option_map_or}
 use Rattle.core_program.specs.Named as with_names
 use Rattle.core_program.specs.ProgramView.{text_at}
@@ -23,7 +23,7 @@ returns-in-None c = λ texts.
     let left = length c.args.classes.now - (c.loop-step._step + 1) in
     let from = declared_mixin (rows texts c.args.classes.now) c.args.applications.now left in
     ap (λ (o : Option Ty). option_map_or from o (ty texts c.loop-step.mixin)) (ap (option_map (ty texts)) (sym c.in-None.is) ∙ c.in_ok-found.ensures texts)
-    ∙ c.loop-step.invariant texts (suc left) (omega (arith, c.loop-step-test.true, c.len-step-end.ensures))
+    ∙ c.loop-step.invariant texts (suc left) (omega (arith, c.loop-step-test.true))
 
 pub returns : goal.returns
-returns c = λ texts. c.loop-step.invariant texts 0 (omega (arith, c.loop-step-test.false, c.loop-step.auto._step-end, c.len-step-end.ensures))
+returns c = λ texts. c.loop-step.invariant texts 0 (omega (arith, c.loop-step-test.false, c.loop-step.auto._step-end))

@@ -11,8 +11,8 @@ pub returns-in_ok-declared-in-Some : goal.returns-in_ok-declared-in-Some
 returns-in_ok-declared-in-Some c =
     let classes = c.args.classes.now in
     let all = c.args.applications.now in
-    IfOk-weaker c.mixin_as.result (λ made. (texts : List (List ℕ)) → mixin texts made ≡ mixin_as (ty texts c.in_ok-declared.declared))
+    IfOk-weaker c.mixin_as.result (λ made. (texts : List (List ℕ)) → mixin texts made ≡ mixin_as (ty texts c.in_ok-declared-in-Some.declared))
     (λ made. (texts : List (List ℕ)) → mixin texts made ≡ mixin_at (rows texts classes) all c.args.place)
-    (λ made is texts. is texts ∙ ap mixin_as (c.in_ok-declared.ensures texts)
+    (λ made is texts. is texts ∙ ap mixin_as (c.in_ok-declared-in-Some.ensures texts)
     ∙ (λ i. option_and_then (λ (of : Ty). mixin_as (declared_mixin (rows texts classes) all (sym (length-map classes (row texts)) i) of)) (c.in-Some.ensures texts i)))
     c.mixin_as.ensures
