@@ -1,3 +1,4 @@
 pub mod Below
 pub mod Back
 pub mod Found
+pub mod Bare

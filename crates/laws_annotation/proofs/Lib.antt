@@ -9,12 +9,12 @@ mod Entries
 mod Stretches
 mod Programs
 mod Classes
-mod Scopes
+pub mod Scopes
 mod Signatures
 mod Members
 mod Rows
-mod Given
+pub mod Given
 mod Supers
 mod Mixable
 mod Reached
-mod Tabled
+pub mod Tabled

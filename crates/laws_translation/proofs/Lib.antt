@@ -14,6 +14,6 @@ mod Members
 mod Bodied
 mod Added
 mod Named
-mod Whole
+pub mod Whole
 mod Either
-mod Again
+pub mod Again

@@ -1,0 +1,4 @@
+// That annotations change no run of a program in production.
+#![tactic(auto)]
+
+pub mod law;
