@@ -35,11 +35,11 @@ use Rattle.translation.specs.Surroundings.{Text}
 use Rattle.laws_execution.specs.Runs.{IsProgramOf, RunsUnder}
 use Rattle.laws_execution.proofs.Bare.{program_bare}
 
-bare : {N : Type 0} → c.Program N → c.Program N
+abbrev bare : {N : Type 0} → c.Program N → c.Program N
 bare q = alike.program (stripped.program q)
 
 -- the core of an answer, or this one
-core_in : c.Program Text → p.Answer → c.Program Text
+abbrev core_in : c.Program Text → p.Answer → c.Program Text
 core_in otherwise (p.accepted made) = made
 core_in otherwise other = otherwise
 
@@ -51,10 +51,10 @@ unnamed x of accepted (Some place) e = absurd (named_refused x place of e accept
 
 module _ (state : State) (s : Scoping) (distinct : AreDistinct s.texts) (keep : KeepSuper (source_units state)) (x y : CoreProgram)
     (is : IsProgramOf state s x) (so : IsProgramOf (erased_state state) (erased_scoping s) y) where
-  given : p.Given
+  abbrev given : p.Given
   given = given_of s state is.classes is.main
 
-  erased : p.Given
+  abbrev erased : p.Given
   erased = given_of (erased_scoping s) (erased_state state) so.classes is.main
 
   mains : so.main ≡ is.main
