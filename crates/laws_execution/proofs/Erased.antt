@@ -1,5 +1,5 @@
 -- In production a program and the erased one write the same, with one table of names.
-use Rattle.std.proofs.Common.{◌≡◌, ◌∙◌, refl, sym, ap, subst, ℕ, List, length, Option, Some, None}
+use Rattle.std.proofs.Common.{◌≡◌, ◌∙◌, refl, sym, ap, subst, ℕ, List, Option, Some, None}
 use Rattle.std.proofs.lemmas.Option.{same_Some}
 use Rattle.dart_base.specs.Names.{AreDistinct}
 use Rattle.dart_base.specs.declared.place.Place.{Place}
@@ -23,10 +23,9 @@ use Rattle.laws_annotation.specs.Erased.{erased_scoping, erased_state}
 use Rattle.laws_annotation.specs.Super.{KeepSuper}
 use Rattle.laws_annotation.specs.Tables.{DifferInSignaturesAlone}
 use Rattle.laws_scope.proofs.Scoped.{one_under}
-use Rattle.laws_scope.specs.Under.{IsScopingUnder}
 use Rattle.laws_translation.proofs.Again.{read_again}
 use Rattle.laws_translation.proofs.Whole.{named_refused}
-use Rattle.laws_translation.specs.Bare.{forgotten, lines, erased_given}
+use Rattle.laws_translation.specs.Bare.{forgotten}
 use Rattle.lower_core.specs.Runnable as runnable
 use Rattle.scope_load.specs.State.{State}
 use Rattle.scope_program.specs.Program.{Scoping}
