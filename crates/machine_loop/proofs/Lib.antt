@@ -5,3 +5,4 @@ pub mod Listed
 pub mod Written
 pub mod Partly
 pub mod Ordered
+pub mod Small

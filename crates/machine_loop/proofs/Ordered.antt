@@ -1,5 +1,5 @@
 -- Statements that are done without a frame.
-use Rattle.std.proofs.Common.{◌≡◌, ℕ, List, ◌∷◌, take, false, sym, ap, ◌∙◌}
+use Rattle.std.proofs.Common.{◌≡◌, ℕ, List, ◌∷◌, take, false, ap, ◌∙◌}
 use Rattle.std.specs.Global.{Vec}
 use Rattle.std.specs.Borrow.{Bor}
 use Rattle.dart_ir.specs.declared.types.TypeRef.{TypeRef}

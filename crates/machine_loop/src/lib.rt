@@ -6,3 +6,4 @@ pub mod loops;
 pub mod operators;
 pub mod quick;
 pub mod statements;
+mod words;

@@ -1,7 +1,7 @@
 // Operators, comparisons, checks and getters that are answered at once, without a frame (ECMA-408, 16.17 Method Invocation).
 #![tactic(auto)]
 
-ghost use Rattle.std.specs.Prelude.{◌≡◌, ◌≤◌, ◌<◌, ◌∷◌, [], Some, true, false, IfSome};
+ghost use Rattle.std.specs.Prelude.{◌≡◌, ◌≤◌, ◌<◌, ◌∷◌, [], Some, None, true, false, IfSome};
 ghost use Rattle.core_program.specs.ProgramView as p;
 ghost use Rattle.core_program.specs.View as v;
 ghost use Rattle.evaluation.specs.Arguments.{alone};
@@ -16,9 +16,9 @@ ghost use Rattle.machine_frame.specs.Outside.{world_in};
 ghost use Rattle.machine_frame.specs.Frames.{seen, mute};
 ghost use Rattle.machine_lookup.specs.Shapes.{operator};
 ghost use Rattle.machine_lookup.specs.Found.{reading};
-ghost use Rattle.machine_loop.specs.Operator.{AnswersAtOnce, ReadsAtOnce, IsReading, IsTaken, operand_site};
+ghost use Rattle.machine_loop.specs.Operator.{AnswersAtOnce, ReadsAtOnce, IsReading, IsTaken, IsPassed, operand_site};
 
-use crate::quick::{leaf_quick, native_value};
+use crate::quick::{leaf_quick, native_value, small_value};
 use core_program::form::{Arguments, Binary, Core, Form, Job, Unary};
 use dart_base::place::Place;
 use dart_ir::class::Role;
@@ -113,6 +113,39 @@ fn answer_at_once(run: &Run, a: Around, id: NativeId, x: Value, y: Value) -> Opt
 #[tactic(auto, using(crate::proofs::Operated::operated))]
 #[inline(always)]
 pub fn operated(
+    run: &Run,
+    a: Around,
+    name: u32,
+    this: Value,
+    value: Value,
+    left: u64,
+) -> Option<(Value, u64)>
+    ensures value { IfSome result (λ r. (at : Place) → mute (send (world_in a.entry run.now.depth) at name this (alone value) (record (seen run.now) { left = left }))
+        ≡ mute (ends (answer r.0) (record (seen run.now) { left = r.1 }))) }
+    ensures less { IfSome result (λ r. r.1 < left) }
+{
+    if is_checked(a) {
+        return operated_checked(run, a, name, this, value, left);
+    }
+    if run.depth == 0 || left < 4 {
+        return None;
+    }
+    let class = class_of(run, a, this);
+    let Some(id) = operator(a.program, class, name) else {
+        return None;
+    };
+    if let Some(answer) = small_value(id, this, value) {
+        return Some((answer, left - 4));
+    }
+    match answer_at_once(run, a, id, this, value) {
+        None => None,
+        Some(answer) => Some((answer, left - 4)),
+    }
+}
+
+// The same in checked mode.
+#[tactic(auto, using(crate::proofs::Operated::operated))]
+fn operated_checked(
     run: &Run,
     a: Around,
     name: u32,
@@ -318,7 +351,51 @@ pub fn at_once(run: &Run, a: Around, core: &Core, left: u64) -> Option<(Value, u
         ≡ mute (ends (answer p.0) (record (seen run.now) { left = p.1 }))) }
     ensures less { IfSome result (λ p. p.1 < left) }
 {
-    within(run, a, core, left, NESTING)
+    operand_within(run, a, core, left, NESTING)
+}
+
+// The form whose value comes to the sites of another one, as to the two of a condition, which production passes by, and the steps left
+// for it.
+#[inline(always)]
+fn bare<'b>(a: Around, core: &'b Core, left: u64) -> (&'b Core, u64)
+    ensures passes { IsPassed a.entry core.now left result.0.now result.1 }
+    ensures less { result.1 ≤ left }
+{
+    if is_checked(a) {
+        return (core, left);
+    }
+    let (inner, middle) = passed_by(a, core, left);
+    passed_by(a, inner, middle)
+}
+
+// Whether values are checked.
+#[inline(always)]
+fn is_checked(a: Around) -> bool
+    ensures { result ≡ false → a.entry.setup.now.annotated ≡ None }
+{
+    match a.setup.annotated {
+        None => false,
+        Some(_) => true,
+    }
+}
+
+// The same for one site in production.
+#[inline(always)]
+fn passed_by<'b>(a: Around, core: &'b Core, left: u64) -> (&'b Core, u64)
+    requires production { a.setup.now.annotated ≡ None }
+    ensures passes { IsPassed a.entry core.now left result.0.now result.1 }
+    ensures less { result.1 ≤ left }
+{
+    let Form::Unary(one, operand) = &core.form else {
+        return (core, left);
+    };
+    let Unary::Check(_) = one else {
+        return (core, left);
+    };
+    if left == 0 || is_closure(operand) {
+        return (core, left);
+    }
+    (operand, left - 1)
 }
 
 // The same of a form whose operands nest no deeper.
@@ -337,7 +414,7 @@ fn within(run: &Run, a: Around, core: &Core, left: u64, nesting: u32) -> Option<
     }
 }
 
-// The same, where a form without parts is looked at first.
+// The same, where sites that production passes by and a form without parts are looked at first.
 #[cycle(nesting)]
 #[inline(always)]
 fn operand_within(
@@ -351,9 +428,10 @@ fn operand_within(
         ≡ mute (ends (answer p.0) (record (seen run.now) { left = p.1 }))) }
     ensures less { IfSome result (λ p. p.1 < left) }
 {
-    match &core.form {
-        Form::Leaf(_) => leaf_quick(run, a, core, left),
-        _ => within(run, a, core, left, nesting),
+    let (inner, rest) = bare(a, core, left);
+    match &inner.form {
+        Form::Leaf(_) => leaf_quick(run, a, inner, rest),
+        _ => within(run, a, inner, rest, nesting),
     }
 }
 

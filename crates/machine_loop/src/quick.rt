@@ -2,6 +2,7 @@
 #![tactic(auto)]
 
 ghost use Rattle.std.specs.Prelude.{◌≡◌, ◌<◌, Some, IfSome};
+ghost use Rattle.dart_ir.specs.declared.value.Value.TheVariants.{Int};
 ghost use Rattle.dart_store.specs.Heap.{static_at};
 ghost use Rattle.core_program.specs.View as v;
 ghost use Rattle.evaluation.specs.State.{State, Outcome, Completion, answer, ends, World};
@@ -10,6 +11,7 @@ ghost use Rattle.native_number.specs.Number.{number_native};
 ghost use Rattle.machine_frame.specs.Outside.{setting_of, world_in};
 ghost use Rattle.machine_frame.specs.Frames.{seen};
 
+use crate::words::of_words;
 use core_program::form::{Core, Form, Leaf};
 use dart_base::place::Place;
 use dart_ir::native::{Answer, NativeId};
@@ -84,4 +86,25 @@ pub fn native_value(native: NativeId, x: Value, y: Value) -> Option<Value>
         Some(Answer::Value(value)) => Some(value),
         _ => None,
     }
+}
+
+/// The same of two numbers that aren't negative and have one word, as most have. `None` says nothing.
+#[inline(always)]
+pub fn small_value(native: NativeId, x: Value, y: Value) -> Option<Value>
+    ensures { IfSome result (λ value. number_native native x y ≡ Some (Answer.Value value)) }
+{
+    let first = word(x)?;
+    let second = word(y)?;
+    of_words(native, first, second)
+}
+
+// The word of a number that isn't negative and has no other. `None` says nothing.
+#[inline(always)]
+fn word(value: Value) -> Option<u64>
+    ensures { IfSome result (λ n. value ≡ Int 0 n) }
+{
+    let Value::Int { high, low } = value else {
+        return None;
+    };
+    if high == 0 { Some(low) } else { None }
 }

@@ -54,3 +54,13 @@ unary_within-returns-in_ok-this-in-Get-clause-value t c =
     (mute (ends (answer p.0) (record (seen r) { left = p.1 })))
     (form.is ∙ ap (λ q. k.Unary q form.operand) c.in-Get.is) c.deref-in-Get.ensures bare c.if-left-eq0.false c.in_ok-this-in-Get.ensures.value value)
     c.got.ensures.value
+
+pub operand_within-returns-in_default-clause-value : goal.operand_within-returns-in_default-clause-value
+operand_within-returns-in_default-clause-value t c =
+    let r = c.args.run.now in
+    if_some c.within.result _ _ (λ p value. c.bare-rest.ensures.passes r.depth (seen r) p.0 p.1 value) c.within.ensures.value
+
+pub operand_within-returns-in-Leaf-clause-value : goal.operand_within-returns-in-Leaf-clause-value
+operand_within-returns-in-Leaf-clause-value t c =
+    let r = c.args.run.now in
+    if_some c.leaf_quick.result _ _ (λ p value. c.bare-rest.ensures.passes r.depth (seen r) p.0 p.1 (ap mute value)) c.leaf_quick.ensures.value
