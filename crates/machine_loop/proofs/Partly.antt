@@ -11,10 +11,10 @@ use Rattle.core_program.specs.declared.form.Form.TheViews.{out-Core}
 use Rattle.core_program.specs.Core as c
 use Rattle.core_program.specs.View as v
 use Rattle.core_program.proofs.Views.{core_out, view_let, view_block}
-use Rattle.evaluation.specs.State.{State, answer, jumps, returns, throws, ended, Outcome, ends, Meaning}
+use Rattle.evaluation.specs.State.{State, answer, jumps, returns, throws, ended, Outcome, ends}
 use Rattle.evaluation.specs.Sequence.{on_answer, in_order}
 use Rattle.evaluation.specs.Variables.{declare}
-use Rattle.evaluation.specs.Evaluation.{eval, evals, act}
+use Rattle.evaluation.specs.Evaluation.{eval, evals}
 use Rattle.evaluation.proofs.Kept.{Keeps}
 use Rattle.machine_frame.specs.declared.around.Around.{Around}
 use Rattle.machine_frame.specs.declared.run.Frame.{Frame}
@@ -162,7 +162,28 @@ module _ (around : Around) (d : ℕ) (b : Below) (core : Core) (st : State) (h :
       ∙ ap (λ l. mute (in_order (evals false (forms_of l) w) u st')) others
       ∙ ap mute (none_in_order (eval (v.core second) w st'))
 
+  -- a block of one, whose step is taken
+  pub alone : (fs : Vec Core) (only : Core) → (out-Core core).form ≡ k.Block fs → fs.items ≡ only ∷ []
+      → mute (eval (v.core core) (world_in around d) st) ≡ mute (eval (v.core only) (world_in around d) (record st { left = st.left - 1 }))
+  alone fs only form items =
+      let at = (out-Core core).place in
+      let w = world_in around d in
+      ap (λ (y : c.Core ℕ). mute (eval y w st)) (core_out core ∙ ap (λ (x : Form). c.at at (v.form x)) form ∙ ap (c.at at) (view_block fs)
+      ∙ ap (λ l. c.at at (c.block (forms_of l))) items)
+      ∙ ap mute (form_enters at (c.block (forms_of (only ∷ []))) w st refl h)
+      ∙ ap mute (none_in_order (eval (v.core only) w (record st { left = st.left - 1 })))
+
 -- ---- runs
+
+pub only_left : (a : Around) (core : Core) (old : Run) (fs : Vec Core) (only : Core) → old.left ≢ 0
+    → (out-Core core).form ≡ k.Block fs → fs.items ≡ only ∷ [] → IsLeft a core only old (record old { left = old.left - 1 })
+only_left a core old fs only h form items = record {
+  does = alone a old.depth (below_of old) core (seen old) h fs only form items;
+  below = refl;
+  frames = refl;
+  depth = refl;
+  less = omega arith;
+}
 
 pub pair_left : (a : Around) (core : Core) (old new : Run) (fs : Vec Core) (first second : Core) (rest : Bor (List Core)) → old.left ≢ 0
     → (out-Core core).form ≡ k.Block fs → fs.items ≡ first ∷ rest.now → rest.now ≡ second ∷ [] → IsDone a first (old.left - 1) old new → IsLeft a core second old new

@@ -83,6 +83,17 @@ pub fn simple<'a>(
     ensures { IfOk result (λ o. MatchOption o (IsDone a.entry core.now run.old.left run.old run.new) (λ more. IsLeft a.entry core.now more.now run.old run.new)) }
 {
     match &core.form {
+        Form::Block(_) => only_or_left(run, a, core),
+        _ => single(run, a, core),
+    }
+}
+
+/// The same of a form that is no block.
+#[inline(always)]
+fn single<'a>(run: &mut Run<'a>, a: Around<'a>, core: &'a Core) -> Result<Option<&'a Core>, Fault>
+    ensures { IfOk result (λ o. MatchOption o (IsDone a.entry core.now run.old.left run.old run.new) (λ more. IsLeft a.entry core.now more.now run.old run.new)) }
+{
+    match &core.form {
         Form::Unary(_, _) => written_or_left(run, a, core),
         Form::Leaf(_) => Ok(read_or_left(run, a, core)),
         Form::Let {
@@ -92,6 +103,30 @@ pub fn simple<'a>(
         } => bound_or_left(run, a, core),
         _ => Ok(Some(core)),
     }
+}
+
+/// The same of a block of one form.
+fn only_or_left<'a>(
+    run: &mut Run<'a>,
+    a: Around<'a>,
+    core: &'a Core,
+) -> Result<Option<&'a Core>, Fault>
+    ensures { IfOk result (λ o. MatchOption o (IsDone a.entry core.now run.old.left run.old run.new) (λ more. IsLeft a.entry core.now more.now run.old run.new)) }
+{
+    if run.left == 0 {
+        return Ok(Some(core));
+    }
+    let Form::Block(forms) = &core.form else {
+        return Ok(Some(core));
+    };
+    let Some((only, others)) = first_form(forms.as_slice()) else {
+        return Ok(Some(core));
+    };
+    let None = first_form(others) else {
+        return Ok(Some(core));
+    };
+    run.left -= 1;
+    single(run, a, only)
 }
 
 /// The same of a variable that is written.
