@@ -1,5 +1,5 @@
 -- Forms of which some is done without a frame, and what is left of them.
-use Rattle.std.proofs.Common.{◌≡◌, ◌≢◌, ℕ, ◌-◌, ◌<◌, List, [], ◌∷◌, false, Option, Some, None, Result, Ok, Err, IfOk, MatchOption, refl, sym, subst, ap, ◌∙◌, arith}
+use Rattle.std.proofs.Common.{◌≡◌, ◌≢◌, ℕ, ◌-◌, ◌<◌, List, [], ◌∷◌, Bool, true, false, cond, Option, Some, None, Result, Ok, Err, IfOk, MatchOption, refl, sym, subst, ap, ◌∙◌, arith}
 use Rattle.std.specs.Global.{Vec, Box}
 use Rattle.std.specs.Borrow.{Bor}
 use Rattle.dart_ir.specs.declared.value.Value.{Value}
@@ -8,14 +8,17 @@ use Rattle.core_program.specs.declared.form.Core.{Core}
 use Rattle.core_program.specs.declared.form.Form.{Form}
 use Rattle.core_program.specs.declared.form.Form as k
 use Rattle.core_program.specs.declared.form.Form.TheViews.{out-Core}
+use Rattle.core_program.specs.declared.form.Part.{Part}
+use Rattle.core_program.specs.declared.form.Part as pt
 use Rattle.core_program.specs.Core as c
 use Rattle.core_program.specs.View as v
-use Rattle.core_program.proofs.Views.{core_out, view_let, view_block}
-use Rattle.evaluation.specs.State.{State, answer, jumps, returns, throws, ended, Outcome, ends}
-use Rattle.evaluation.specs.Sequence.{on_answer, in_order}
+use Rattle.core_program.proofs.Views.{core_out, view_let, view_block, view_if, view_missing, view_given}
+use Rattle.evaluation.specs.State.{State, answer, jumps, returns, throws, ended, Outcome, ends, Meaning, World}
+use Rattle.evaluation.specs.Sequence.{on_answer, in_order, chosen, branch, is_true}
 use Rattle.evaluation.specs.Variables.{declare}
-use Rattle.evaluation.specs.Evaluation.{eval, evals}
-use Rattle.evaluation.proofs.Kept.{Keeps}
+use Rattle.evaluation.specs.Evaluation.{eval, evals, part}
+use Rattle.evaluation.proofs.Kept.{Kept, Keeps, kept_logic}
+use Rattle.evaluation.proofs.Logic.{chosen_rel}
 use Rattle.machine_frame.specs.declared.around.Around.{Around}
 use Rattle.machine_frame.specs.declared.run.Frame.{Frame}
 use Rattle.machine_frame.specs.declared.run.Frame.TheVariants as f
@@ -24,7 +27,7 @@ use Rattle.machine_frame.specs.declared.run.Control.TheVariants.{Enter, Leave}
 use Rattle.machine_frame.specs.declared.run.Run.{Run}
 use Rattle.machine_frame.specs.Outside.{setting_of, world_in}
 use Rattle.machine_frame.specs.Frames.{Below, seen, below_of, going, resume, resumed, does, mute, forms_of, IsBeside}
-use Rattle.machine_frame.proofs.Mute.{quiet, answered_goes, resumed_keeps, keeps_mute}
+use Rattle.machine_frame.proofs.Mute.{quiet, answered_goes, resumed_keeps, keeps_mute, going_on, part_kept}
 use Rattle.machine_frame.proofs.Beside.{beside_does}
 use Rattle.machine_frame.proofs.Steps.{form_enters}
 use Rattle.machine_loop.specs.Simple.{IsDone, IsLeft}
@@ -127,7 +130,18 @@ left_resumes a old new one more frame d =
     ∙ sym (answered_goes a old (resumed (world_in a old.depth) (below_of old) frame) (resumed_keeps a old.depth (below_of old) frame)
     (eval (v.core one) (world_in a old.depth) (seen old)) (o old.depth) d.does)
 
--- ---- variables and blocks
+-- ---- variables, blocks and choices
+
+-- one of two parts
+either : (b : Bool) (first second : Part) (w : World) (st : State)
+    → chosen b (part (v.part first) w Null) (part (v.part second) w Null) st ≡ part (v.part (cond b first second)) w Null st
+either true first second w st = refl
+either false first second w st = refl
+
+choice_kept : (a : Around) (d : ℕ) (first second : c.Part ℕ) (x : Value) → Kept (branch x (part first (world_in a d) Null) (part second (world_in a d) Null))
+choice_kept a d first second x =
+    let w = world_in a d in
+    chosen_rel kept_logic (is_true x) (part first w Null) (part first w Null) (part second w Null) (part second w Null) (part_kept a d first Null) (part_kept a d second Null)
 
 module _ (around : Around) (d : ℕ) (b : Below) (core : Core) (st : State) (h : st.left ≢ 0) where
   -- a variable that stands in its body
@@ -173,7 +187,54 @@ module _ (around : Around) (d : ℕ) (b : Below) (core : Core) (st : State) (h :
       ∙ ap mute (form_enters at (c.block (forms_of (only ∷ []))) w st refl h)
       ∙ ap mute (none_in_order (eval (v.core only) w (record st { left = st.left - 1 })))
 
+  -- a choice whose condition is answered
+  pub chosen_part : (p : Box Core) (first second : Part) (condition : Core) (st' : State) (u : Value)
+      → (out-Core core).form ≡ k.If p first second → condition ≡ p.value
+      → mute (eval (v.core condition) (world_in around d) (record st { left = st.left - 1 })) ≡ mute (ends (answer u) st')
+      → mute (eval (v.core core) (world_in around d) st) ≡ mute (part (v.part (cond (is_true u) first second)) (world_in around d) Null st')
+  chosen_part p first second condition st' u form is_condition e =
+      let at = (out-Core core).place in
+      let w = world_in around d in
+      let st0 = record st { left = st.left - 1 } in
+      let go : Value → Meaning = λ x. branch x (part (v.part first) w Null) (part (v.part second) w Null) in
+      ap (λ (y : c.Core ℕ). mute (eval y w st)) (core_out core ∙ ap (λ (x : Form). c.at at (v.form x)) form ∙ ap (c.at at) (view_if p first second)
+      ∙ ap (λ y. c.at at (c.choice (v.core y) (v.part first) (v.part second))) (sym is_condition))
+      ∙ ap mute (form_enters at (c.choice (v.core condition) (v.part first) (v.part second)) w st refl h)
+      ∙ goes (on_answer go) (going_on around d go (choice_kept around d (v.part first) (v.part second))) (eval (v.core condition) w st0) (ends (answer u) st') e
+      ∙ ap mute (either (is_true u) first second w st')
+
 -- ---- runs
+
+module _ (a : Around) (core : Core) (old : Run) (left : ℕ) (p : Box Core) (first second : Part) (condition : Core) (u : Value) (h : old.left ≢ 0)
+    (form : (out-Core core).form ≡ k.If p first second) (is_condition : condition ≡ p.value)
+    (e : mute (eval (v.core condition) (world_in a old.depth) (record (seen old) { left = old.left - 1 })) ≡ mute (ends (answer u) (record (seen old) { left = left })))
+    (less : left < old.left - 1) where
+  pub choice_left : (box : Box Core) (inner : Core) → cond (is_true u) first second ≡ pt.Given box → inner ≡ box.value → IsLeft a core inner old (record old { left = left })
+  choice_left box inner is is_inner =
+      let w = world_in a old.depth in
+      let st : State = record (seen old) { left = left } in
+      record {
+        does = chosen_part a old.depth (below_of old) core (seen old) h p first second condition st u form is_condition e
+            ∙ ap (λ (q : Part). mute (part (v.part q) w Null st)) is ∙ ap (λ (q : c.Part ℕ). mute (part q w Null st)) (view_given box)
+            ∙ ap (λ (q : Core). mute (eval (v.core q) w st)) (sym is_inner);
+        below = refl;
+        frames = refl;
+        depth = refl;
+        less = omega (arith, less);
+      }
+
+  pub choice_done : cond (is_true u) first second ≡ pt.Missing → IsDone a core old.left old (record old { left = left; answer = Null })
+  choice_done is =
+      let w = world_in a old.depth in
+      let st : State = record (seen old) { left = left } in
+      record {
+        does = chosen_part a old.depth (below_of old) core (seen old) h p first second condition st u form is_condition e
+            ∙ ap (λ (q : Part). mute (part (v.part q) w Null st)) is ∙ ap (λ (q : c.Part ℕ). mute (part q w Null st)) view_missing;
+        below = refl;
+        frames = refl;
+        depth = refl;
+        less = omega (arith, less);
+      }
 
 pub only_left : (a : Around) (core : Core) (old : Run) (fs : Vec Core) (only : Core) → old.left ≢ 0
     → (out-Core core).form ≡ k.Block fs → fs.items ≡ only ∷ [] → IsLeft a core only old (record old { left = old.left - 1 })

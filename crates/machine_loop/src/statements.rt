@@ -1,14 +1,14 @@
 // Statements in order, of which the simple ones are done without a frame.
-ghost use Rattle.std.specs.Prelude.{◌≡◌, ◌<◌, ◌+◌, true, false, IfOk, MatchOption};
+ghost use Rattle.std.specs.Prelude.{◌≡◌, ◌<◌, ◌+◌, true, false, cond, IfOk, MatchOption};
 ghost use Rattle.core_program.specs.View as v;
-ghost use Rattle.evaluation.specs.Sequence.{in_order, on_answer};
+ghost use Rattle.evaluation.specs.Sequence.{in_order, is_true, on_answer};
 ghost use Rattle.evaluation.specs.Evaluation.{eval, evals};
 ghost use Rattle.machine_frame.specs.Frames.{going, does, room, work, forms_of};
 ghost use Rattle.machine_loop.specs.Simple.{IsDone, IsLeft};
 
 use crate::operators::at_once;
 use crate::quick::leaf_quick;
-use core_program::form::{Core, Form, Unary};
+use core_program::form::{Core, Form, Part, Unary};
 use dart_ir::value::Value;
 use machine_frame::around::{Around, Fault};
 use machine_frame::moves::answer;
@@ -16,7 +16,7 @@ use machine_frame::run::{Control, Frame, Run};
 use machine_frame::stacks::push_frame;
 use machine_frame::variables::{declare, has_cell, write_variable};
 use machine_lookup::program::is_closure;
-use machine_lookup::row::first_form;
+use machine_lookup::row::{first_form, is_true};
 
 /// How many forms may be behind one that is done without a frame. So the host's stack does not grow with a block.
 const STATEMENTS: usize = 200;
@@ -84,11 +84,16 @@ pub fn simple<'a>(
 {
     match &core.form {
         Form::Block(_) => only_or_left(run, a, core),
+        Form::If {
+            condition: _,
+            first: _,
+            second: _,
+        } => choice_or_left(run, a, core),
         _ => single(run, a, core),
     }
 }
 
-/// The same of a form that is no block.
+/// The same of a form that is neither a block nor a choice.
 #[inline(always)]
 fn single<'a>(run: &mut Run<'a>, a: Around<'a>, core: &'a Core) -> Result<Option<&'a Core>, Fault>
     ensures { IfOk result (λ o. MatchOption o (IsDone a.entry core.now run.old.left run.old run.new) (λ more. IsLeft a.entry core.now more.now run.old run.new)) }
@@ -127,6 +132,46 @@ fn only_or_left<'a>(
     };
     run.left -= 1;
     single(run, a, only)
+}
+
+/// The same of a choice whose condition is answered at once, and the part that it chooses.
+fn choice_or_left<'a>(
+    run: &mut Run<'a>,
+    a: Around<'a>,
+    core: &'a Core,
+) -> Result<Option<&'a Core>, Fault>
+    ensures { IfOk result (λ o. MatchOption o (IsDone a.entry core.now run.old.left run.old run.new) (λ more. IsLeft a.entry core.now more.now run.old run.new)) }
+{
+    if run.left == 0 {
+        return Ok(Some(core));
+    }
+    let Form::If {
+        condition,
+        first,
+        second,
+    } = &core.form
+    else {
+        return Ok(Some(core));
+    };
+    let Some((value, left)) = at_once(run, a, condition, run.left - 1) else {
+        return Ok(Some(core));
+    };
+    run.left = left;
+    match part_of(value, first, second) {
+        Part::Missing => {
+            run.answer = Value::Null;
+            Ok(None)
+        }
+        Part::Given(inner) => single(run, a, inner),
+    }
+}
+
+/// One of two parts, by a value.
+#[inline(always)]
+fn part_of<'a>(value: Value, first: &'a Part, second: &'a Part) -> &'a Part
+    ensures { result.now ≡ cond (is_true value) first.now second.now }
+{
+    if is_true(value) { first } else { second }
 }
 
 /// The same of a variable that is written.
