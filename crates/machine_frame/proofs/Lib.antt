@@ -14,3 +14,4 @@ pub mod Mute
 pub mod Types
 pub mod Bodies
 pub mod Beside
+pub mod Plain

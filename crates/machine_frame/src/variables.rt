@@ -1,7 +1,7 @@
 // Variables of the body at work.
 #![tactic(auto)]
 
-ghost use Rattle.std.specs.Prelude.{◌≡◌, ◌∷◌, ◌++◌, [], Some, None, map, take, drop, nat_eq, position, is_some, IfOk, IfSome};
+ghost use Rattle.std.specs.Prelude.{◌≡◌, ◌∷◌, ◌++◌, [], true, Some, None, map, take, drop, nat_eq, position, is_some, IfOk, IfSome};
 ghost use Rattle.dart_ir.specs.declared.value.Value.TheVariants.{Null};
 ghost use Rattle.evaluation.specs.State.{Outcome, Completion, answer, ends, now};
 ghost use Rattle.evaluation.specs.Sequence.{in_order};
@@ -48,9 +48,32 @@ pub fn has_cell(run: &Run, a: Around, var: u32) -> bool
     }
 }
 
+/// Whether a body neither takes a variable along nor declares one with a cell. `false` says nothing.
+#[inline(always)]
+fn has_slots_alone(a: Around, source: Source) -> bool
+    ensures taken { result ≡ true → taken_along (setting_of a.entry) (source_of source) ≡ [] }
+    ensures own { result ≡ true → own_cells (setting_of a.entry) (source_of source) ≡ [] }
+{
+    if captures_here(a, source).len() != 0 {
+        return false;
+    }
+    cells_here(a, source).len() == 0
+}
+
 /// What a variable holds. `None` says nothing.
+#[tactic(auto, using(crate::proofs::Plain::slot_read))]
 #[inline(always)]
 pub fn read_variable(run: &Run, a: Around, var: u32) -> Option<Value>
+    ensures { IfSome result (λ value. value ≡ variable (setting_of a.entry) (now (seen run.now)) var) }
+{
+    if has_slots_alone(a, run.body.source) {
+        return Some(slot(run.slots.as_slice(), run.base, var));
+    }
+    read_anywhere(run, a, var)
+}
+
+/// The same, where the variable may have a cell.
+fn read_anywhere(run: &Run, a: Around, var: u32) -> Option<Value>
     ensures { IfSome result (λ value. value ≡ variable (setting_of a.entry) (now (seen run.now)) var) }
 {
     match place_of(captures_here(a, run.body.source), var) {
@@ -78,9 +101,23 @@ fn own_variable(run: &Run, a: Around, var: u32) -> Value
 }
 
 /// Writes a variable.
-#[tactic(auto, using(crate::proofs::Cells::write_in_cell))]
+#[tactic(auto, using(crate::proofs::Plain::slot_written))]
 #[inline(always)]
 pub fn write_variable(run: &mut Run, a: Around, var: u32, value: Value) -> Result<(), Fault>
+    ensures written { IfOk result (λ _. write (setting_of a.entry) var value (seen run.old) ≡ ends (answer value) (seen run.new)) }
+    ensures beside { IfOk result (λ _. IsBeside run.old run.new) }
+    ensures stays { IfOk result (λ _. run.new.answer ≡ run.old.answer) }
+{
+    if has_slots_alone(a, run.body.source) {
+        write_slot(&mut run.slots, run.base, var, value);
+        return Ok(());
+    }
+    write_anywhere(run, a, var, value)
+}
+
+/// The same, where the variable may have a cell.
+#[tactic(auto, using(crate::proofs::Cells::write_in_cell))]
+fn write_anywhere(run: &mut Run, a: Around, var: u32, value: Value) -> Result<(), Fault>
     ensures written { IfOk result (λ _. write (setting_of a.entry) var value (seen run.old) ≡ ends (answer value) (seen run.new)) }
     ensures beside { IfOk result (λ _. IsBeside run.old run.new) }
     ensures stays { IfOk result (λ _. run.new.answer ≡ run.old.answer) }
@@ -142,6 +179,8 @@ pub fn declare(run: &mut Run, a: Around, var: u32, value: Value) -> Result<Optio
 }
 
 /// Fresh copies of variables, in order. `None` where the units don't suffice.
+#[tactic(auto, using(crate::proofs::Plain::none_copied))]
+#[inline(always)]
 pub fn copy_variables(
     run: &mut Run,
     a: Around,
@@ -151,11 +190,25 @@ pub fn copy_variables(
     ensures copied { IfOk result (λ held. in_order (map (copy (setting_of a.entry)) vars.now) last (seen run.old) ≡ ends (value_or_full held) (seen run.new)) }
     ensures beside { IfOk result (λ held. IsBeside run.old run.new) }
 {
+    if vars.len() == 0 {
+        return Ok(Some(last));
+    }
+    if has_slots_alone(a, run.body.source) {
+        return Ok(Some(Value::Null));
+    }
+    copy_each(run, a, vars, last)
+}
+
+/// The same of one after another.
+fn copy_each(run: &mut Run, a: Around, vars: &[u32], last: Value) -> Result<Option<Value>, Fault>
+    ensures copied { IfOk result (λ held. in_order (map (copy (setting_of a.entry)) vars.now) last (seen run.old) ≡ ends (value_or_full held) (seen run.new)) }
+    ensures beside { IfOk result (λ held. IsBeside run.old run.new) }
+{
     match vars.split_first() {
         None => Ok(Some(last)),
         Some((var, rest)) => match copy_variable(run, a, *var)? {
             None => Ok(None),
-            Some(held) => copy_variables(run, a, rest, held),
+            Some(held) => copy_each(run, a, rest, held),
         },
     }
 }
