@@ -81,14 +81,8 @@ impl Linked {
         ensures same { IfSome result (λ f. (f.now.class ≡ class) × (f.now.name ≡ name)) }
     {
         let slots = self.slots.as_slice();
-        seek(
-            &self.program,
-            slots,
-            place(class, name, slots.len()),
-            TRIES,
-            class,
-            name,
-        )
+        let at = place(class, name, slots.len());
+        look(&self.program, slots, at, class, name)
     }
 
     /// The first declaration of that name and role on the chain of the class. One without a body is no declaration.
@@ -133,6 +127,28 @@ fn filled_slot<'a>(slots: &'a [Option<Found>], at: usize) -> Option<&'a Found>
         None => None,
         Some(found) => Some(found),
     }
+}
+
+/// What a slot says of a name of a class, from the place on, where the first of them mostly does.
+#[inline(always)]
+fn look<'a>(
+    program: &CoreProgram,
+    slots: &'a [Option<Found>],
+    at: usize,
+    class: u32,
+    name: u32,
+) -> Option<&'a Found>
+    requires { AreFound (v.program program.now) slots.now }
+    ensures found { IfSome result (λ f. IsFound (v.program program.now) f.now) }
+    ensures same { IfSome result (λ f. (f.now.class ≡ class) × (f.now.name ≡ name)) }
+{
+    let Some(found) = filled_slot(slots, at) else {
+        return None;
+    };
+    if found.class == class && found.name == name {
+        return Some(found);
+    }
+    seek(program, slots, at + 1, TRIES - 1, class, name)
 }
 
 /// What a slot says of a name of a class, from the place on.
