@@ -4,6 +4,7 @@
 pub mod entries;
 pub mod loops;
 pub mod operators;
+mod passing;
 pub mod quick;
 pub mod statements;
 mod words;

@@ -1,7 +1,7 @@
 // Operators, comparisons, checks and getters that are answered at once, without a frame (ECMA-408, 16.17 Method Invocation).
 #![tactic(auto)]
 
-ghost use Rattle.std.specs.Prelude.{◌≡◌, ◌≤◌, ◌<◌, ◌∷◌, [], Some, None, true, false, IfSome};
+ghost use Rattle.std.specs.Prelude.{◌≡◌, ◌≤◌, ◌<◌, ◌∷◌, [], Some, true, false, IfSome};
 ghost use Rattle.core_program.specs.ProgramView as p;
 ghost use Rattle.core_program.specs.View as v;
 ghost use Rattle.evaluation.specs.Arguments.{alone};
@@ -16,8 +16,9 @@ ghost use Rattle.machine_frame.specs.Outside.{world_in};
 ghost use Rattle.machine_frame.specs.Frames.{seen, mute};
 ghost use Rattle.machine_lookup.specs.Shapes.{operator};
 ghost use Rattle.machine_lookup.specs.Found.{reading};
-ghost use Rattle.machine_loop.specs.Operator.{AnswersAtOnce, ReadsAtOnce, IsReading, IsTaken, IsPassed, operand_site};
+ghost use Rattle.machine_loop.specs.Operator.{AnswersAtOnce, ReadsAtOnce, IsReading, IsTaken, operand_site};
 
+use crate::passing::{bare, is_checked};
 use crate::quick::{leaf_quick, native_value, small_value};
 use core_program::form::{Arguments, Binary, Core, Form, Job, Unary};
 use dart_base::place::Place;
@@ -352,50 +353,6 @@ pub fn at_once(run: &Run, a: Around, core: &Core, left: u64) -> Option<(Value, u
     ensures less { IfSome result (λ p. p.1 < left) }
 {
     operand_within(run, a, core, left, NESTING)
-}
-
-// The form whose value comes to the sites of another one, as to the two of a condition, which production passes by, and the steps left
-// for it.
-#[inline(always)]
-fn bare<'b>(a: Around, core: &'b Core, left: u64) -> (&'b Core, u64)
-    ensures passes { IsPassed a.entry core.now left result.0.now result.1 }
-    ensures less { result.1 ≤ left }
-{
-    if is_checked(a) {
-        return (core, left);
-    }
-    let (inner, middle) = passed_by(a, core, left);
-    passed_by(a, inner, middle)
-}
-
-// Whether values are checked.
-#[inline(always)]
-fn is_checked(a: Around) -> bool
-    ensures { result ≡ false → a.entry.setup.now.annotated ≡ None }
-{
-    match a.setup.annotated {
-        None => false,
-        Some(_) => true,
-    }
-}
-
-// The same for one site in production.
-#[inline(always)]
-fn passed_by<'b>(a: Around, core: &'b Core, left: u64) -> (&'b Core, u64)
-    requires production { a.setup.now.annotated ≡ None }
-    ensures passes { IsPassed a.entry core.now left result.0.now result.1 }
-    ensures less { result.1 ≤ left }
-{
-    let Form::Unary(one, operand) = &core.form else {
-        return (core, left);
-    };
-    let Unary::Check(_) = one else {
-        return (core, left);
-    };
-    if left == 0 || is_closure(operand) {
-        return (core, left);
-    }
-    (operand, left - 1)
 }
 
 // The same of a form whose operands nest no deeper.

@@ -7,7 +7,7 @@ use Rattle.evaluation.specs.Parts.{form_of, is_closure}
 use Rattle.machine_frame.specs.Frames.{mute}
 use Rattle.machine_frame.specs.Outside.{world_in}
 use Rattle.machine_loop.proofs.Operated.{check_at_once}
-use Rattle.machine_loop.proofs.operators.passed_by.Goals as goal
+use Rattle.machine_loop.proofs.passing.passed_by.Goals as goal
 
 pub returns-clause-passes : goal.returns-clause-passes
 returns-clause-passes c = λ d st x after e.
