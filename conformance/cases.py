@@ -2,8 +2,7 @@
 
 A case NAME is a file NAME.stdout, which holds the bytes that are due, and beside it:
     NAME.dart     the file that is run; where there is none, the words stand in NAME.args
-    NAME.repeat   in place of NAME.dart: a number and a line feed, and then the bytes that NAME.dart has so many times; where there is
-                  a NAME.dart too, it has them so many times behind its first line
+    NAME.repeat   in place of NAME.dart: a number and a line feed, and then the bytes that NAME.dart has so many times
     NAME.files/   further files, which lie in the folder that the program runs in
     NAME.copies   a number and a line feed, and then the bytes of each of so many further files f0.dart, f1.dart ..
     NAME.args     the words, one a line; without it they are `run` and `NAME.dart`, in erased/ `erase` and `NAME.dart`
@@ -64,13 +63,11 @@ def lay_out(case, folder):
     source, repeat, files, copies = (beside(case, ending) for ending in ('.dart', '.repeat', '.files', '.copies'))
     if files.is_dir():
         shutil.copytree(files, folder, dirs_exist_ok=True)
-    text = source.read_bytes() if source.exists() else b''
+    if source.exists():
+        shutil.copy(source, folder)
     if repeat.exists():
         times, piece = repeat.read_bytes().split(b'\n', 1)
-        behind = text.find(b'\n') + 1
-        text = text[:behind] + int(times) * piece + text[behind:]
-    if has_source(case):
-        (pathlib.Path(folder) / (case.name + '.dart')).write_bytes(text)
+        (pathlib.Path(folder) / (case.name + '.dart')).write_bytes(int(times) * piece)
     if copies.exists():
         count, text = copies.read_bytes().split(b'\n', 1)
         for number in range(int(count)):
