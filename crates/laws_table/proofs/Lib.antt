@@ -8,3 +8,5 @@ mod Loosened
 pub mod Shapes
 pub mod Rowed
 pub mod Laws
+pub mod Agreed
+pub mod More

@@ -1,5 +1,5 @@
 // Laws of tables of classes: what units and a table of names determine.
-ghost use Rattle.std.specs.Prelude.{◌≡◌, List};
+ghost use Rattle.std.specs.Prelude.{◌≡◌, ◌++◌, List};
 ghost use Rattle.dart_base.specs.Names.{AreDistinct};
 ghost use Rattle.dart_base.specs.declared.place.Place.{Place};
 ghost use Rattle.dart_ir.specs.declared.class.Classes.{Classes};
@@ -44,4 +44,10 @@ pub fn no_table_with_a_large_type()
 pub fn no_large_type_with_a_fault()
     ensures { (given : Given) (units : List SourceUnit) (texts : List Text) (f : Fault) (place : Place) → AreDistinct texts
         → IsFaultFrom given units texts f → IsLargeFrom given units texts place → ⊥ }
+{}
+
+/// The table of classes that units have under a table of names they have under each one that begins with it.
+pub fn tables_stay_under_more_names()
+    ensures { (given : Given) (units : List SourceUnit) (texts more : List Text) (k : Classes) → IsTableFrom given units texts k
+        → IsTableFrom given units (texts ++ more) k }
 {}
