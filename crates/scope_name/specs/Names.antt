@@ -10,6 +10,7 @@ use Rattle.dart_token.specs.declared.token.TokenKind.{TokenKind}
 use Rattle.dart_token.specs.declared.token.TokenKind.TheVariants.{Head, Identifier, Middle, Tail, Whole}
 use Rattle.dart_tree.specs.Unit.{UnitTree}
 use Rattle.dart_tree.specs.UnitTokens.{unit_tokens}
+use Rattle.dart_erase.specs.UnitErased as erased
 use Rattle.scope_declared.specs.Number.{name_text}
 use Rattle.scope_name.specs.declared.table.TheConstants.{GIVEN}
 
@@ -61,3 +62,11 @@ given_names = fold with_text [] (map (λ text. text.now) GIVEN)
 -- the names of a program's units
 abbrev pub names_of : List ℕ → List UnitTree → List (List ℕ)
 names_of homes units = with_units given_names homes units
+
+-- the names that the units have without their annotations
+abbrev pub kept_names : List ℕ → List UnitTree → List (List ℕ)
+kept_names homes units = names_of homes (map erased.unit units)
+
+-- these, and behind them what only annotations spell
+abbrev pub all_names : List ℕ → List UnitTree → List (List ℕ)
+all_names homes units = with_units (kept_names homes units) homes units

@@ -1,13 +1,15 @@
 // The table of the names of a program.
 ghost use Rattle.std.specs.Prelude.{◌≡◌, ◌++◌, [], IfOk, OnOk, fold, map, codes, decimal};
 ghost use Rattle.std.specs.List.{take_while};
+ghost use Rattle.dart_erase.specs.UnitErased as erased;
 ghost use Rattle.dart_pieces.specs.Bytes.{is_name_byte};
 ghost use Rattle.dart_tree.specs.UnitView as view;
 ghost use Rattle.scope_declared.specs.Number.{is_private};
-ghost use Rattle.scope_name.specs.Names.{given_names, names_of, with_identifier, with_piece, with_shown, with_text, with_token, with_unit, with_units};
+ghost use Rattle.scope_name.specs.Names.{given_names, kept_names, names_of, with_identifier, with_piece, with_shown, with_text, with_token, with_unit, with_units};
 
 use crate::shown::name_at_front;
 use dart_base::names::Names;
+use dart_erase::unit::erase;
 use dart_token::token::{Token, TokenKind};
 use dart_tree::unit::Unit;
 use dart_unparse::tokens;
@@ -181,6 +183,28 @@ fn add_units(
     }
 }
 
+// The same of units without their annotations, of each of which a copy is made and let go.
+fn add_kept(
+    alloc: Global,
+    names: &mut Names,
+    homes: &[u32],
+    units: &[Unit],
+) -> Result<(), AllocError>
+    ensures { OnOk result (names.new ≡ with_units names.old homes.now (map erased.unit (map view.unit units.now))) }
+{
+    match homes {
+        [] => Ok(()),
+        [library, homes @ ..] => match units {
+            [] => Ok(()),
+            [unit, units @ ..] => {
+                let kept = erase(alloc, unit)?;
+                add_unit(alloc, names, *library, &kept)?;
+                add_kept(alloc, names, homes, units)
+            }
+        },
+    }
+}
+
 fn add_texts(names: &mut Names, texts: &[&str]) -> Result<(), AllocError>
     ensures { OnOk result (names.new ≡ fold with_text names.old (map (λ text. text.now) texts.now)) }
 {
@@ -208,6 +232,29 @@ pub fn names_of(alloc: Global, homes: &[u32], units: &[Unit]) -> Result<Names, A
     ensures { IfOk result (λ names. names ≡ names_of homes.now (map view.unit units.now)) }
 {
     let mut names = given(alloc)?;
+    add_units(alloc, &mut names, homes, units)?;
+    Ok(names)
+}
+
+/// The names that the units have without the annotations that change nothing (ECMA-408, 19 Types), as `names_of` has them.
+pub fn kept_names(alloc: Global, homes: &[u32], units: &[Unit]) -> Result<Names, AllocError>
+    ensures { IfOk result (λ names. names ≡ kept_names homes.now (map view.unit units.now)) }
+{
+    let mut names = given(alloc)?;
+    add_kept(alloc, &mut names, homes, units)?;
+    Ok(names)
+}
+
+/// A table with these names, and behind them what else the units spell.
+pub fn with_names(
+    alloc: Global,
+    kept: &Names,
+    homes: &[u32],
+    units: &[Unit],
+) -> Result<Names, AllocError>
+    ensures { IfOk result (λ names. names ≡ with_units kept.now homes.now (map view.unit units.now)) }
+{
+    let mut names = kept.try_clone(alloc)?;
     add_units(alloc, &mut names, homes, units)?;
     Ok(names)
 }
