@@ -40,15 +40,15 @@ library-there (l ∷ all) n below = (get_or (l ∷ all) n l, slice_get-get_or (l
 
 module _ (s : Scoping) (scopes : ProgramScopes) (are : AreScopesOf s scopes) where
   abbrev Is : ClassScope → made.ClassScope → Type 0
-  Is c m = IsClassOf s.texts s.numbered c m × (c.library < length s.libraries)
+  Is c m = IsClassOf s.kept s.numbered c m × (c.library < length s.libraries)
 
   pub count : length scopes.classes.items ≡ length s.classes
-  count = AllZip-long (IsClassOf s.texts s.numbered) s.classes scopes.classes.items are.classes
+  count = AllZip-long (IsClassOf s.kept s.numbered) s.classes scopes.classes.items are.classes
 
   pub class-there : (n : ℕ) → Both Is (slice_get s.classes n) (slice_get scopes.classes.items n)
-  class-there n = by (slice_get s.classes n) (slice_get scopes.classes.items n) refl (both-at (IsClassOf s.texts s.numbered) s.classes scopes.classes.items are.classes n)
+  class-there n = by (slice_get s.classes n) (slice_get scopes.classes.items n) refl (both-at (IsClassOf s.kept s.numbered) s.classes scopes.classes.items are.classes n)
     where
-      by : (o : Option ClassScope) (p : Option made.ClassScope) → slice_get s.classes n ≡ o → Both (IsClassOf s.texts s.numbered) o p → Both Is o p
+      by : (o : Option ClassScope) (p : Option made.ClassScope) → slice_get s.classes n ≡ o → Both (IsClassOf s.kept s.numbered) o p → Both Is o p
       by None None at h = tt
       by None (Some m) at h = absurd h
       by (Some c) None at h = absurd h
@@ -89,11 +89,11 @@ module _ (s : Scoping) (scopes : ProgramScopes) (are : AreScopesOf s scopes) whe
     inside-same : inside_in scopes m (slice_get scopes.libraries.items m.library) ≡ names_in_class s (Some c)
     unfolding around
     inside-same =
-        let names : inside.names_within m.names around ≡ inside.class_names s.texts s.numbered c.declaration c.parameters around =
+        let names : inside.names_within m.names around ≡ inside.class_names s.kept s.numbered c.declaration c.parameters around =
         λ i. record { library = around.library; meaning = fun_ext (λ text. is.0.names.inside around text refl) i; prefixed = around.prefixed } in
         ap (inside_in scopes m) there.1
         ∙ (λ i. known_names (count i) (is.0.parameters i) (inside.names_within m.names (record (names_of there.0) { library = is.0.library i })))
-        ∙ ap (known_names (length s.classes) (length c.parameters)) (names ∙ ap (inside.class_names s.texts s.numbered c.declaration c.parameters) around-same)
+        ∙ ap (known_names (length s.classes) (length c.parameters)) (names ∙ ap (inside.class_names s.kept s.numbered c.declaration c.parameters) around-same)
 
   -- what they mean in the header of a class, and inside of it
   pub class_header-same : (o : Option ClassScope) (p : Option made.ClassScope) → Both Is o p → class_header scopes p ≡ names_in_header s o

@@ -134,7 +134,7 @@ module _ (state : State) (s : Scoping) (is : IsScoping state s) where
     simple n k same e = subst (IsSimple (class_given s) (length all)) same
         (by (slice_get s.classes n) (slice_get scopes.classes.items n) refl (class-there s scopes are n) e)
       where
-        by : (o : Option ClassScope) (p : Option made.ClassScope) → slice_get s.classes n ≡ o → Both (λ c m. IsClassOf s.texts s.numbered c m × (c.library < length s.libraries)) o p
+        by : (o : Option ClassScope) (p : Option made.ClassScope) → slice_get s.classes n ≡ o → Both (λ c m. IsClassOf s.kept s.numbered c m × (c.library < length s.libraries)) o p
             → option_map_or (λ (x : made.ClassScope). x.parameters == 0) p false ≡ true → IsSimple (class_given s) (length all) n
         by None None there h e = absurd (cc)
         by None (Some m) there h e = absurd h

@@ -20,7 +20,7 @@ use Rattle.translation.specs.Program as p
 use Rattle.translation.specs.Surroundings.{Text}
 use Rattle.dart_execute.specs.declared.execution.Execution.{Execution}
 use Rattle.dart_execute.specs.declared.execution.Execution.TheVariants.{Ran}
-use Rattle.dart_execute.specs.Execution.{mentions_isolate, RunsIf, Follows, ExecutesIn, Executes}
+use Rattle.dart_execute.specs.Execution.{mentions_isolate, with_names, RunsIf, Follows, ExecutesIn, Executes}
 use Rattle.dart_execute.specs.Laws.{FollowsExecution, execution_same, until_report, CheckedExecutionsFollow}
 use Rattle.dart_execute.proofs.Once.{alike_executions}
 
@@ -41,24 +41,24 @@ checked_executions_follow state b =
 -- ---- something becomes of it in each mode
 
 module _ (mode other : Mode) (b : Budget) where
-  runs_if_also : (isolates : Bool) (texts : List Text) (k : Classes) (of : c.Program Text) (x : Execution)
-      → RunsIf isolates texts k of mode b x → (y : Execution) × RunsIf isolates texts k of other b y
-  runs_if_also true texts k of x is = (x, is)
-  runs_if_also false texts k of x (core, made, is, run, e) =
-      let (also, ran) = runs_also core mode other b made run in
+  runs_if_also : (isolates : Bool) (kept texts : List Text) (k : Classes) (of : c.Program Text) (x : Execution)
+      → RunsIf isolates kept texts k of mode b x → (y : Execution) × RunsIf isolates kept texts k of other b y
+  runs_if_also true kept texts k of x is = (x, is)
+  runs_if_also false kept texts k of x (core, made, is, run, e) =
+      let (also, ran) = runs_also (with_names kept core) mode other b made run in
       (Ran also, (core, also, is, ran, refl))
 
-  follows_also : (state : State) (texts : List Text) (k : Classes) (answer : p.Answer) (x : Execution)
-      → Follows state texts k mode b answer x → (y : Execution) × Follows state texts k other b answer y
-  follows_also state texts k (p.accepted of) x is = runs_if_also (mentions_isolate state) texts k of x is
-  follows_also state texts k (p.rejected why) x is = (x, is)
-  follows_also state texts k p.not_built x is = (x, is)
+  follows_also : (state : State) (kept texts : List Text) (k : Classes) (answer : p.Answer) (x : Execution)
+      → Follows state kept texts k mode b answer x → (y : Execution) × Follows state kept texts k other b answer y
+  follows_also state kept texts k (p.accepted of) x is = runs_if_also (mentions_isolate state) kept texts k of x is
+  follows_also state kept texts k (p.rejected why) x is = (x, is)
+  follows_also state kept texts k p.not_built x is = (x, is)
 
   executes_in_also : (state : State) (s : Scoping) (x : Execution) → ExecutesIn state s mode b x → (y : Execution) × ExecutesIn state s other b y
   executes_in_also state s x (inl is) = (x, inl is)
   executes_in_also state s x (inr (inl is)) = (x, inr (inl is))
   executes_in_also state s x (inr (inr is)) =
-      let (y, follows) = follows_also state s.texts is.classes (p.core (given_of s state is.classes is.main)) x is.follows in
+      let (y, follows) = follows_also state s.kept s.texts is.classes (p.core (given_of s state is.classes is.main)) x is.follows in
       (y, inr (inr (record { classes = is.classes; main = is.main; table = is.table; starts = is.starts; follows = follows })))
 
   pub executes_also : (state : State) (x : Execution) → Executes state mode b x → (y : Execution) × Executes state other b y

@@ -48,7 +48,7 @@ use Rattle.translation.specs.Surroundings.{Text}
 use Rattle.dart_execute.specs.declared.execution.Execution.{Execution}
 use Rattle.dart_execute.specs.declared.execution.Execution.TheVariants.{Refused, Ran}
 use Rattle.dart_execute.specs.declared.cause.Cause.TheVariants as cause
-use Rattle.dart_execute.specs.Execution.{mentions_isolate, IsCoreOf, RunsIf, Follows, IsTranslated, IsRefusedBy, IsTooLarge, ExecutesIn, Executes, class_cause}
+use Rattle.dart_execute.specs.Execution.{mentions_isolate, with_names, IsCoreOf, RunsIf, Follows, IsTranslated, IsRefusedBy, IsTooLarge, ExecutesIn, Executes, class_cause}
 
 -- ---- the table of classes
 
@@ -63,7 +63,7 @@ module _ (given : Given) (units : List SourceUnit) (texts : List Text) (distinct
       let f = read.roots.function.declared in
       record { object = omega (arith, size, object, o); function = omega (arith, size, function, f) }
 
-  as_table : (k : Classes) → IsBuiltFrom given units texts k → IsTableFrom given units texts k
+  pub as_table : (k : Classes) → IsBuiltFrom given units texts k → IsTableFrom given units texts k
   as_table k (q, read, sized) = (q, read.source, read.within, sized)
 
   as_fault : (f : Fault) → IsRefusedIn given units texts f → IsFaultFrom given units texts f
@@ -72,7 +72,7 @@ module _ (given : Given) (units : List SourceUnit) (texts : List Text) (distinct
   as_large : (place : Place) → IsOverlargeIn given units texts place → IsLargeFrom given units texts place
   as_large place (q, read, large) = (q, read.source, read.within, large)
 
-  built_roots : (k : Classes) → IsBuiltFrom given units texts k → DeclaresRoots (classes_of given units)
+  pub built_roots : (k : Classes) → IsBuiltFrom given units texts k → DeclaresRoots (classes_of given units)
   built_roots k (q, read, sized) = roots q read
 
   large_roots : (place : Place) → IsOverlargeIn given units texts place → DeclaresRoots (classes_of given units)
@@ -166,25 +166,24 @@ module _ (mode other : Mode) (b : Budget) (Alike : Execution → Execution → T
   same : (x y : Execution) → x ≡ y → Alike x y
   same x y e = subst (Alike x) e (itself x)
 
-  module _ (texts : List Text) (distinct : AreDistinct texts) where
+  module _ (kept texts : List Text) (distinct : AreDistinct texts) where
     alike_runs : (k l : Classes) (of : c.Program Text) (x y : CoreProgram) (made also : Written) → IsCoreOf texts k of x → IsCoreOf texts l of y
-        → IsRunOf x (on_failure mode) b made → IsRunOf y (on_failure other) b also → Alike (Ran made) (Ran also)
+        → IsRunOf (with_names kept x) (on_failure mode) b made → IsRunOf (with_names kept y) (on_failure other) b also → Alike (Ran made) (Ran also)
     alike_runs k l of x y made also is so run ran =
-        let names : x.names ≡ y.names = is.names ∙ sym so.names in
         let shown : named.program (pv.text_at texts) (pv.program x) ≡ named.program (pv.text_at texts) (pv.program y) =
         ap (λ (t : List Text). named.program (pv.text_at t) (pv.program x)) (sym is.names) ∙ is.same ∙ sym so.same
         ∙ ap (λ (t : List Text). named.program (pv.text_at t) (pv.program y)) so.names in
         let programs : pv.program x ≡ pv.program y = same_numbers texts distinct (pv.program x) (pv.program y) is.within so.within shown in
-        runs x made also run (run_over x y (on_failure other) b also names programs ran)
+        runs (with_names kept x) made also run (run_over (with_names kept x) (with_names kept y) (on_failure other) b also refl programs ran)
 
-    alike_runs_if : (isolates : Bool) (k l : Classes) (of : c.Program Text) (x y : Execution) → RunsIf isolates texts k of mode b x
-        → RunsIf isolates texts l of other b y → Alike x y
+    alike_runs_if : (isolates : Bool) (k l : Classes) (of : c.Program Text) (x y : Execution) → RunsIf isolates kept texts k of mode b x
+        → RunsIf isolates kept texts l of other b y → Alike x y
     alike_runs_if true k l of x y is so = same x y (is ∙ sym so)
     alike_runs_if false k l of x y (core, made, is, run, e) (again, also, so, ran, f) =
         subst (λ u. Alike u y) (sym e) (subst (Alike (Ran made)) (sym f) (alike_runs k l of core again made also is so run ran))
 
-    alike_follows : (state : State) (k l : Classes) (answer : p.Answer) (x y : Execution) → Follows state texts k mode b answer x
-        → Follows state texts l other b answer y → Alike x y
+    alike_follows : (state : State) (k l : Classes) (answer : p.Answer) (x y : Execution) → Follows state kept texts k mode b answer x
+        → Follows state kept texts l other b answer y → Alike x y
     alike_follows state k l (p.accepted of) x y is so = alike_runs_if (mentions_isolate state) k l of x y is so
     alike_follows state k l (p.rejected why) x y is so = same x y (is ∙ sym so)
     alike_follows state k l p.not_built x y is so = same x y (is ∙ sym so)
@@ -199,8 +198,8 @@ module _ (mode other : Mode) (b : Budget) (Alike : Execution → Execution → T
         let mains : is.main ≡ so.main = same_Some is.main so.main (sym is.starts ∙ so.starts) in
         let given : given_of s state so.classes so.main ≡ given_of s state is.classes is.main =
         ap (given_of s state so.classes) (sym mains) ∙ sym (given_same state s is.main is.classes so.classes seen.0 seen.1 (is.table.numbered.function ∙ tables.function ∙ sym so.table.numbered.function)) in
-        alike_follows s.texts distinct state is.classes so.classes (p.core (given_of s state is.classes is.main)) x y is.follows
-        (subst (λ (g : p.Given). Follows state s.texts so.classes other b (p.core g) y) given so.follows)
+        alike_follows s.kept s.texts distinct state is.classes so.classes (p.core (given_of s state is.classes is.main)) x y is.follows
+        (subst (λ (g : p.Given). Follows state s.kept s.texts so.classes other b (p.core g) y) given so.follows)
 
     refusal_or_translated : (how : Mode) (x y : Execution) → IsRefusedBy state s x → IsTranslated state s how b y → ⊥
     refusal_or_translated how x y (f, refused, e) so = fault_or_built (class_given s) (source_units state) s.texts distinct f so.table.built refused so.table.is_built

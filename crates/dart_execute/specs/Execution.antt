@@ -68,20 +68,25 @@ mentions_isolate state = list_any is_isolate state.links
 -- The program that runs: that core, with names by their numbers in the table of names, over that table of classes.
 pub record IsCoreOf (texts : List Text) (k : Classes) (of : core.Program Text) (x : CoreProgram) : Type 0 where
   pub names : x.names ≡ texts
+  pub classes : x.classes ≡ k
   pub same : text_program x ≡ runnable.program of
   pub within : AreWithin (length texts) (program x)
 
+-- what a run shows of names: those that the units have without their annotations, which come first in the table
+abbrev pub with_names : List Text → CoreProgram → CoreProgram
+with_names kept x = record x { names = kept }
+
 -- A program with a core runs, in a mode and within a budget. What may start isolates isn't built.
-abbrev pub RunsIf : Bool → List Text → Classes → core.Program Text → Mode → Budget → Execution → Type 0
-RunsIf true texts k of mode budget out = out ≡ NotBuilt
-RunsIf false texts k of mode budget out =
-    (x : CoreProgram) × (made : Written) × IsCoreOf texts k of x × IsRunOf x (on_failure mode) budget made × (out ≡ Ran made)
+abbrev pub RunsIf : Bool → List Text → List Text → Classes → core.Program Text → Mode → Budget → Execution → Type 0
+RunsIf true kept texts k of mode budget out = out ≡ NotBuilt
+RunsIf false kept texts k of mode budget out =
+    (x : CoreProgram) × (made : Written) × IsCoreOf texts k of x × IsRunOf (with_names kept x) (on_failure mode) budget made × (out ≡ Ran made)
 
 -- What becomes of a program of which translation says this.
-abbrev pub Follows : State → List Text → Classes → Mode → Budget → p.Answer → Execution → Type 0
-Follows state texts k mode budget (p.accepted of) out = RunsIf (mentions_isolate state) texts k of mode budget out
-Follows state texts k mode budget (p.rejected why) out = out ≡ Refused (p.place_of why) (core_cause why)
-Follows state texts k mode budget p.not_built out = out ≡ NotBuilt
+abbrev pub Follows : State → List Text → List Text → Classes → Mode → Budget → p.Answer → Execution → Type 0
+Follows state kept texts k mode budget (p.accepted of) out = RunsIf (mentions_isolate state) kept texts k of mode budget out
+Follows state kept texts k mode budget (p.rejected why) out = out ≡ Refused (p.place_of why) (core_cause why)
+Follows state kept texts k mode budget p.not_built out = out ≡ NotBuilt
 
 -- ---- the whole
 
@@ -97,7 +102,7 @@ pub record IsTranslated (state : State) (s : Scoping) (mode : Mode) (budget : Bu
   pub main : ℕ
   pub table : IsTableOf state s classes
   pub starts : s.main ≡ Some main
-  pub follows : Follows state s.texts classes mode budget (p.core (given_of s state classes main)) out
+  pub follows : Follows state s.kept s.texts classes mode budget (p.core (given_of s state classes main)) out
 
 -- the first header that is refused, or that is too large
 abbrev pub IsRefusedBy : State → Scoping → Execution → Type 0

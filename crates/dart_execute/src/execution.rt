@@ -90,10 +90,11 @@ fn asked_mode(checked: bool) -> Mode
     }
 }
 
-// A translated program runs, unless it may start isolates.
+// A translated program runs, unless it may start isolates. It shows the names that its units have without annotations.
 fn run_translated(
     alloc: Global,
     loaded: &Loaded,
+    kept: Names,
     names: Names,
     classes: Classes,
     translated: Program,
@@ -102,14 +103,18 @@ fn run_translated(
     requires valid { IsValid classes }
     requires units { options.budget.units < 2 ^ 32 }
     ensures { IfOk result (λ out. (a : Around) → a.texts ≡ names → IsJoined a translated.classes classes
-        → RunsIf (mentions_isolate (state_of loaded.now)) names classes (views.program a translated) (asked_mode options.checked) (allowed options.budget) out) }
+        → RunsIf (mentions_isolate (state_of loaded.now)) kept names classes (views.program a translated) (asked_mode options.checked) (allowed options.budget) out) }
 {
     if mentions_isolate(loaded) {
         return Ok(Execution::NotBuilt);
     }
     let core = joined_core(alloc, names, classes, translated)?;
+    let shown = CoreProgram {
+        names: kept,
+        ..core
+    };
     let mode = asked_mode(options.checked);
-    match run_program(alloc, &core, mode, limits_of(options.budget)) {
+    match run_program(alloc, &shown, mode, limits_of(options.budget)) {
         Ok(made) => Ok(Execution::Ran(made)),
         Err(_) => Err(Want),
     }
@@ -126,7 +131,7 @@ fn translate(
     requires valid { IsValid classes }
     requires units { options.budget.units < 2 ^ 32 }
     ensures { IfOk result (λ out. (s : Scoping) → AreScopesOf s scopes → (main : ℕ) × (s.main ≡ Some main)
-        × Follows (state_of loaded.now) s.texts classes (asked_mode options.checked) (allowed options.budget)
+        × Follows (state_of loaded.now) s.kept s.texts classes (asked_mode options.checked) (allowed options.budget)
         (p.core (given_of s (state_of loaded.now) classes main)) out) }
 {
     let Some(main) = scopes.main else {
@@ -136,7 +141,16 @@ fn translate(
         Outcome::Rejected(why) => Ok(Execution::Refused(place_of(why), core_cause(why))),
         Outcome::NotBuilt => Ok(Execution::NotBuilt),
         Outcome::Accepted(translated) => {
-            run_translated(alloc, loaded, scopes.names, classes, translated, options)
+            let kept = scopes.kept;
+            run_translated(
+                alloc,
+                loaded,
+                kept,
+                scopes.names,
+                classes,
+                translated,
+                options,
+            )
         }
     }
 }

@@ -66,7 +66,7 @@ module _ (s : Scoping) where
   }
 
   written_same : (c : ClassScope) → written_of s (erased_class c) ≡ written_of s c
-  written_same c = λ i. written_class s.texts s.numbered c.declaration (accessor_count_same c.members i) (has_constructor_same c.members i) (makings_same c.members i)
+  written_same c = λ i. written_class s.kept s.numbered c.declaration (accessor_count_same c.members i) (has_constructor_same c.members i) (makings_same c.members i)
 
   pub source_same : source_of (erased_scoping s) ≡ source_of s
   source_same = λ i. record {
@@ -74,7 +74,7 @@ module _ (s : Scoping) where
     mixed = map_same erased_class (λ (c : ClassScope). c.is_mixed) (λ c. refl) s.classes i;
     written = map_same erased_class (written_of s) written_same s.classes i;
     count = length s.numbered;
-    natives = natives s.texts s.numbered;
+    natives = natives s.kept s.numbered;
     int_class = called_same s s.core (codes "int") i;
     string_class = called_same s s.core (codes "String") i;
     map_class = called_same s s.core (codes "Map") i;

@@ -4,6 +4,8 @@ use Rattle.std.specs.Prelude.{flat_map, slice_get, slice_index_or, bytes_eq, nat
 use Rattle.std.specs.Option.{option_map_or}
 use Rattle.dart_ir.specs.Ty.{dynamic}
 use Rattle.dart_ir.specs.declared.number.ClassId.{ClassId}
+use Rattle.dart_erase.specs.UnitErased as of_unit
+use Rattle.dart_tree.specs.Unit.{UnitTree}
 use Rattle.dart_tree.specs.UnitView.{maybe}
 use Rattle.scope_load.specs.State.{State}
 use Rattle.scope_library.specs.Library.{homes_of}
@@ -11,6 +13,7 @@ use Rattle.scope_library.specs.declared.library.TheConstants.{CORE_UNIT}
 use Rattle.scope_entry.specs.Kinds.{unit_kinds}
 use Rattle.scope_entry.specs.Entries.{numbered, entries}
 use Rattle.scope_entry.specs.Libraries.{AreLibraries}
+use Rattle.scope_name.specs.Names.{all_names, kept_names}
 use Rattle.scope_space.specs.declared.declaration.Kind.{Kind}
 use Rattle.scope_class.specs.Inside as inside
 use Rattle.scope_class.specs.Constructors.{constructor_of}
@@ -22,7 +25,8 @@ use Rattle.scope_program.specs.Program.{Scoping, IsScoping}
 use Rattle.scope_program.specs.Around.{known_names, names_in, names_in_header, names_in_class, names_at, header_names_at, static_in, constructor_in, declared_tables, headers_around, members_around}
 use Rattle.laws_annotation.specs.Erased.{erased_state, erased_class, erased_scoping}
 use Rattle.laws_scope.specs.Under.{IsScopingUnder}
-use Rattle.laws_scope.proofs.Scoped.{under}
+use Rattle.laws_scope.proofs.Absorbing.{all_erased, kept_erased}
+use Rattle.laws_scope.proofs.Scoped.{one_under, under}
 use Rattle.laws_annotation.proofs.Mapped.{length_same, get_mapped, position_same}
 use Rattle.laws_annotation.proofs.Libraries.{homes_same}
 use Rattle.laws_annotation.proofs.Entries.{libraries_go}
@@ -31,8 +35,10 @@ use Rattle.laws_annotation.proofs.Classes.{classes_same, makings_same}
 
 -- ---- scopings
 
-pub scoping_goes : (table : List Text) (state : State) (s : Scoping) → IsScopingUnder table state s → IsScopingUnder table (erased_state state) (erased_scoping s)
-scoping_goes table state s h = record {
+pub scoping_goes : (table all : List Text) (state : State) (s : Scoping) → IsScopingUnder table all state s
+    → IsScopingUnder table all (erased_state state) (erased_scoping s)
+scoping_goes table all state s h = record {
+  kept = h.kept;
   texts = h.texts;
   homes = h.homes ∙ sym (homes_same state);
   numbered = h.numbered ∙ ap numbered (sym (all_declared_same table (homes_of state) state.units))
@@ -47,8 +53,36 @@ scoping_goes table state s h = record {
   main = h.main;
 }
 
-pub program_goes : (state : State) (s : Scoping) → IsScoping state s → IsScopingUnder s.texts (erased_state state) (erased_scoping s)
-program_goes state s h = scoping_goes s.texts state s (under state s h)
+pub program_goes : (state : State) (s : Scoping) → IsScoping state s → IsScopingUnder s.kept s.texts (erased_state state) (erased_scoping s)
+program_goes state s h = scoping_goes s.kept s.texts state s (under state s h)
+
+-- the erased program has a table of names of its own, which has the names that the units have without their annotations alone
+pub own_scoping : (state : State) (s t : Scoping) → IsScoping state s → IsScoping (erased_state state) t → t ≡ record (erased_scoping s) { texts = s.kept }
+own_scoping state s t is own =
+    let h : IsScopingUnder s.kept s.texts (erased_state state) (erased_scoping s) = program_goes state s is in
+    let units : List UnitTree = map of_unit.unit state.units in
+    let kept : t.kept ≡ s.kept =
+    own.kept ∙ ap (λ homes. kept_names homes units) (homes_same state) ∙ kept_erased (homes_of state) state.units ∙ sym is.kept in
+    let texts : t.texts ≡ s.kept =
+    own.texts ∙ ap (λ homes. all_names homes units) (homes_same state) ∙ all_erased (homes_of state) state.units ∙ sym is.kept in
+    let shown : Scoping = record (erased_scoping s) { texts = s.kept } in
+    let is_shown : IsScopingUnder s.kept s.kept (erased_state state) shown =
+    record {
+      kept = refl;
+      texts = refl;
+      homes = h.homes;
+      numbered = h.numbered;
+      spaces = h.spaces;
+      are_libraries = h.are_libraries;
+      names = h.names;
+      classes = h.classes;
+      core = h.core;
+      main = h.main;
+    } in
+    let is_own : IsScopingUnder s.kept s.kept (erased_state state) t =
+    subst (λ (names : List Text). IsScopingUnder names s.kept (erased_state state) t) kept
+    (subst (λ (all : List Text). IsScopingUnder t.kept all (erased_state state) t) texts (under (erased_state state) t own)) in
+    one_under s.kept s.kept (erased_state state) shown t is_shown is_own
 
 -- ---- what is read of a scoping
 
@@ -64,7 +98,7 @@ module _ (s : Scoping) where
   in_class_same : (o : Option ClassScope) → names_in_class (erased_scoping s) (maybe erased_class o) ≡ names_in_class s o
   in_class_same None = refl
   in_class_same (Some c) = λ i. known_names (count_same i) (length c.parameters)
-      (inside.class_names s.texts s.numbered c.declaration c.parameters (record (names_in s c.library) { library = c.library }))
+      (inside.class_names s.kept s.numbered c.declaration c.parameters (record (names_in s c.library) { library = c.library }))
 
   static_same : (o : Option ClassScope) (name : Text) → static_in (erased_scoping s) (maybe erased_class o) name ≡ static_in s o name
   static_same None name = refl
@@ -72,7 +106,7 @@ module _ (s : Scoping) where
 
   constructor_same : (o : Option ClassScope) (id : Text) → constructor_in (erased_scoping s) (maybe erased_class o) id ≡ constructor_in s o id
   constructor_same None id = refl
-  constructor_same (Some c) id = λ i. constructor_of s.texts s.numbered c.declaration (makings_same c.members i) id
+  constructor_same (Some c) id = λ i. constructor_of s.kept s.numbered c.declaration (makings_same c.members i) id
 
   parameters_same : (o : Option ClassScope) → option_map_or (λ (c : ClassScope). length c.parameters) (maybe erased_class o) 0 ≡ option_map_or (λ (c : ClassScope). length c.parameters) o 0
   parameters_same None = refl

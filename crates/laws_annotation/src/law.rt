@@ -76,13 +76,15 @@ pub fn programs_are_kept()
         → IsProgram names homes (erased_state state) program }
 {}
 
-/// Under one table of names, names mean in an erased program what they mean in the program, and its classes are those of the
-/// program but for the trees of their members (ECMA-408, 16.33 Identifier Reference).
+/// Names mean in an erased program what they mean in the program, and its classes are those of the program but for the trees of their
+/// members (ECMA-408, 16.33 Identifier Reference). Its own table of names has what the units spell without their annotations alone.
 pub fn scopings_are_kept()
     ensures of_a_program { (state : State) (s : Scoping) → IsScoping state s
-        → IsScopingUnder s.texts (erased_state state) (erased_scoping s) }
-    ensures under_a_table { (table : List Text) (state : State) (s : Scoping) → IsScopingUnder table state s
-        → IsScopingUnder table (erased_state state) (erased_scoping s) }
+        → IsScopingUnder s.kept s.texts (erased_state state) (erased_scoping s) }
+    ensures of_its_own { (state : State) (s t : Scoping) → IsScoping state s → IsScoping (erased_state state) t
+        → t ≡ record (erased_scoping s) { texts = s.kept } }
+    ensures under_a_table { (table all : List Text) (state : State) (s : Scoping) → IsScopingUnder table all state s
+        → IsScopingUnder table all (erased_state state) (erased_scoping s) }
 {}
 
 /// Headers and members of classes are read in the same surroundings: what names mean, what classes declare as static, and their

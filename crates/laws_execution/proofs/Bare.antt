@@ -8,6 +8,10 @@ use Rattle.core_program.specs.Program as p
 use Rattle.core_program.specs.Stripped as stripped
 use Rattle.lower_core.specs.Runnable as runnable
 
+-- a program without what annotations ask for, columns and marks, whatever its names are
+abbrev pub bare_of : {N : Type 0} → p.Program N → p.Program N
+bare_of q = alike.program (stripped.program q)
+
 module _ {N : Type 0} where
   signature_bare : (kind : FunctionKind) (of : TyOf N) → stripped.loose (runnable.signature_of kind of) ≡ runnable.signature_of kind (stripped.loose of)
   signature_bare Plain of = refl
@@ -20,5 +24,5 @@ module _ {N : Type 0} where
   functions_bare [] = refl
   functions_bare (x ∷ xs) = λ i. record (alike.function (stripped.function x)) { signature = signature_bare x.kind x.signature i } ∷ functions_bare xs i
 
-  pub program_bare : (q : p.Program N) → alike.program (stripped.program (runnable.program q)) ≡ runnable.program (alike.program (stripped.program q))
-  program_bare q = λ i. record (alike.program (stripped.program q)) { functions = functions_bare q.functions i }
+  pub program_bare : (q : p.Program N) → bare_of (runnable.program q) ≡ runnable.program (bare_of q)
+  program_bare q = λ i. record (bare_of q) { functions = functions_bare q.functions i }

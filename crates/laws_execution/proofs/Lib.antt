@@ -1,2 +1,5 @@
+pub mod Across
 pub mod Bare
 pub mod Erased
+pub mod Kept
+pub mod Ran

@@ -3,3 +3,4 @@ mod Alike
 mod Over
 mod Named
 pub mod Scoped
+pub mod Absorbing

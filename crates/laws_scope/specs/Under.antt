@@ -1,4 +1,4 @@
--- What the names of a loaded program mean under a table of names that may have more than its units spell.
+-- What the names of a loaded program mean under tables of names that may have more than its units spell.
 use Rattle.std.specs.Prelude.{◌≡◌, List, flat_map, find, slice_index_or, codes}
 use Rattle.std.specs.Option.{option_map}
 use Rattle.scope_declared.specs.Number.{number_in}
@@ -16,9 +16,11 @@ use Rattle.translation.specs.Surroundings.{Text}
 use Rattle.scope_program.specs.Classes.{class_scopes}
 use Rattle.scope_program.specs.Program.{Scoping, AreScopes}
 
--- It is `IsScoping` of scope_program with that table in place of the one that the units spell.
-pub record IsScopingUnder (table : List Text) (state : State) (s : Scoping) : Type 0 where
-  pub texts : s.texts ≡ table
+-- It is `IsScoping` of scope_program with these tables in place of those that the units spell: names mean what they do under the first, and
+-- the second is the table of names.
+pub record IsScopingUnder (table all : List Text) (state : State) (s : Scoping) : Type 0 where
+  pub kept : s.kept ≡ table
+  pub texts : s.texts ≡ all
   pub homes : s.homes ≡ homes_of state
   pub numbered : s.numbered ≡ numbered (all_declared table (homes_of state) state.units)
   pub spaces : List Library

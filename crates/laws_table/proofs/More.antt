@@ -22,16 +22,16 @@ use Rattle.translation.specs.Surroundings.{Text}
 use Rattle.laws_table.proofs.Agreed.{Agree, halves, ty_agreed, agree_within}
 
 module _ (texts more : List Text) where
-  abbrev longer : List Text
+  abbrev pub longer : List Text
   longer = texts ++ more
 
-  abbrev Kept : List ℕ → Type 0
+  abbrev pub Kept : List ℕ → Type 0
   Kept = Agree (text_at texts) (text_at longer)
 
   abbrev parts : (xs ys : List ℕ) → Kept (xs ++ ys) → Kept xs × Kept ys
   parts = halves (text_at texts) (text_at longer)
 
-  all_kept : {A B C : Type 0} (names : B → List ℕ) (show : A → B) (one other : A → C) → ((x : A) → Kept (names (show x)) → one x ≡ other x)
+  pub all_kept : {A B C : Type 0} (names : B → List ℕ) (show : A → B) (one other : A → C) → ((x : A) → Kept (names (show x)) → one x ≡ other x)
       → (xs : List A) → Kept (flat_map names (map show xs)) → map one xs ≡ map other xs
   all_kept names show one other each [] h = refl
   all_kept names show one other each (x ∷ xs) h =

@@ -52,7 +52,7 @@ same-maps {A} {B} {C} R f g same (x ∷ xs) (y ∷ ys) all = λ i. same x y all.
 
 module _ (s : Scoping) (x : ProgramScopes) (h : AreScopesOf s x) where
   abbrev Is : ClassScope → code.ClassScope → Type 0
-  Is = IsClassOf s.texts s.numbered
+  Is = IsClassOf s.kept s.numbered
 
   count : length x.classes.items ≡ length s.classes
   count = as-long Is s.classes x.classes.items h.classes
@@ -69,7 +69,7 @@ module _ (s : Scoping) (x : ProgramScopes) (h : AreScopesOf s x) where
 
   -- inside of a class, where these are the names around
   within-class : (c : ClassScope) (m : code.ClassScope) → Is c m → (around : Names) → around.library ≡ c.library
-      → inside.names_within m.names around ≡ inside.class_names s.texts s.numbered c.declaration c.parameters around
+      → inside.names_within m.names around ≡ inside.class_names s.kept s.numbered c.declaration c.parameters around
   within-class c m is around same = λ i. record around { meaning = λ text. is.names.inside around text same i }
 
   one-class : (c : ClassScope) (m : code.ClassScope) → Is c m → c.library < length s.libraries
@@ -84,7 +84,7 @@ module _ (s : Scoping) (x : ProgramScopes) (h : AreScopesOf s x) where
           (λ i. known_names (count i) (is.parameters i) (inside.names_within m.names (record (names_of found) { library = is.library i })))
           ∙ ap (known_names (length s.classes) (length c.parameters)) (within-class c m is around refl)
           ∙ ap (λ (n : Names). known_names (length s.classes) (length c.parameters)
-          (inside.class_names s.texts s.numbered c.declaration c.parameters (record n { library = c.library }))) names
+          (inside.class_names s.kept s.numbered c.declaration c.parameters (record n { library = c.library }))) names
 
   in-class : (n : ℕ) → class_names x (slice_get x.classes.items n) ≡ names_in_class s (slice_get s.classes n)
   in-class n = by (slice_get s.classes n) (slice_get x.classes.items n) (both-at Is s.classes x.classes.items n h.classes) (h.housed n)
@@ -126,7 +126,7 @@ module _ (s : Scoping) (x : ProgramScopes) (h : AreScopesOf s x) where
   -- ---- what classes write
 
   one-written : (c : ClassScope) (m : code.ClassScope) → Is c m → written_made x m ≡ written_of s c
-  one-written c m is = λ i. written_class (h.texts i) (h.numbered i) (is.declaration i) (is.accessors i) (is.has_constructor i) (is.ways i)
+  one-written c m is = λ i. written_class (h.kept i) (h.numbered i) (is.declaration i) (is.accessors i) (is.has_constructor i) (is.ways i)
 
   source : source_made x ≡ source_of s
   source = λ i. record {
@@ -134,7 +134,7 @@ module _ (s : Scoping) (x : ProgramScopes) (h : AreScopesOf s x) where
     mixed = same-maps Is (λ c. c.is_mixed) (λ m. m.is_mixed) (λ c m is. is.is_mixed) s.classes x.classes.items h.classes i;
     written = same-maps Is (written_of s) (written_made x) one-written s.classes x.classes.items h.classes i;
     count = length (h.numbered i);
-    natives = natives (h.texts i) (h.numbered i);
+    natives = natives (h.kept i) (h.numbered i);
     int_class = h.int_class i;
     string_class = h.string_class i;
     map_class = h.map_class i;

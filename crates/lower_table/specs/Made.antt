@@ -55,7 +55,7 @@ index_made t = record {
   classes = t.declared.items;
   applications = t.applications.items;
   parameters = t.parameters.items;
-  constructors = map (all_generative t.scopes.now.names) t.constructors.items;
+  constructors = map (all_generative t.scopes.now.kept) t.constructors.items;
   natives = t.natives.items;
   int_class = t.int_class;
   string_class = t.string_class;
@@ -64,7 +64,7 @@ index_made t = record {
 
 -- what the classes of the program are as they are declared
 abbrev pub written_made : ProgramScopes → ClassScope → Written
-written_made x c = written_class x.names x.numbered.items c.declaration c.accessors c.has_constructor c.ways.items
+written_made x c = written_class x.kept x.numbered.items c.declaration c.accessors c.has_constructor c.ways.items
 
 abbrev pub source_made : ProgramScopes → Source
 source_made x = record {
@@ -72,7 +72,7 @@ source_made x = record {
   mixed = map (λ (c : ClassScope). c.is_mixed) x.classes.items;
   written = map (written_made x) x.classes.items;
   count = length x.numbered.items;
-  natives = natives x.names x.numbered.items;
+  natives = natives x.kept x.numbered.items;
   int_class = x.int_class;
   string_class = x.string_class;
   map_class = x.map_class;

@@ -119,7 +119,7 @@ meanings_of s = record {
 }
 
 abbrev pub written_of : Scoping → ClassScope → Written
-written_of s c = written_class s.texts s.numbered c.declaration (accessor_count c.members) (has_constructor c.members) (makings c.members)
+written_of s c = written_class s.kept s.numbered c.declaration (accessor_count c.members) (has_constructor c.members) (makings c.members)
 
 abbrev pub source_of : Scoping → Source
 source_of s = record {
@@ -127,7 +127,7 @@ source_of s = record {
   mixed = map (λ c. c.is_mixed) s.classes;
   written = map (written_of s) s.classes;
   count = length s.numbered;
-  natives = natives s.texts s.numbered;
+  natives = natives s.kept s.numbered;
   int_class = class_called s.classes s.core (codes "int");
   string_class = class_called s.classes s.core (codes "String");
   map_class = class_called s.classes s.core (codes "Map");

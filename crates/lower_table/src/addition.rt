@@ -26,7 +26,7 @@ pub fn added_to_rows(
     declared: &[Option<u32>],
     classes: &Classes,
 ) -> Result<Additions, Want>
-    ensures constructors { IfOk result (λ made. all_done scopes.now.names made.constructors
+    ensures constructors { IfOk result (λ made. all_done scopes.now.kept made.constructors
         ≡ constructors_added (map (written_made scopes.now) scopes.now.classes.items) (length scopes.now.numbered.items)
         (added_rows (rows_of scopes.now.names classes.now) applications.now declared.now)) }
     ensures starts { IfOk result (λ made. made.starts.items

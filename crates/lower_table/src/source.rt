@@ -35,7 +35,7 @@ pub fn mixed(alloc: Global, classes: &[ClassScope]) -> Result<Vec<bool>, Want>
 
 fn class_written(alloc: Global, scopes: &ProgramScopes, class: &ClassScope) -> Result<Written, Want>
     requires { length scopes.now.numbered.items < 2 ^ 32 }
-    ensures { IfOk result (λ made. written scopes.now.names made ≡ written_made scopes.now class.now) }
+    ensures { IfOk result (λ made. written scopes.now.kept made ≡ written_made scopes.now class.now) }
 {
     if class.declaration as usize >= scopes.numbered.len() {
         return Err(Want);
@@ -53,7 +53,7 @@ fn class_written(alloc: Global, scopes: &ProgramScopes, class: &ClassScope) -> R
 /// What each class writes.
 pub fn all_written(alloc: Global, scopes: &ProgramScopes) -> Result<Vec<Written>, Want>
     requires { length scopes.now.numbered.items < 2 ^ 32 }
-    ensures { IfOk result (λ made. map (written scopes.now.names) made.items ≡ map (written_made scopes.now) scopes.now.classes.items) }
+    ensures { IfOk result (λ made. map (written scopes.now.kept) made.items ≡ map (written_made scopes.now) scopes.now.classes.items) }
 {
     let mut made = Vec::new(alloc);
     for class in &scopes.classes {

@@ -106,7 +106,7 @@ impl<'a> TableScopes<'a> {
     {
         match self.constructors.get(of.0 as usize) {
             None => Constructor::Missing,
-            Some(all) => constructor_called(&self.scopes.names, all, id),
+            Some(all) => constructor_called(&self.scopes.kept, all, id),
         }
     }
 }
@@ -262,7 +262,7 @@ pub fn table_scopes<'a>(
         applications,
         parameters: parameter_counts(alloc, &classes.classes)?,
         constructors: added.constructors,
-        natives: natives(alloc, &scopes.names, &scopes.numbered)?,
+        natives: natives(alloc, &scopes.kept, &scopes.numbered)?,
         int_class: found_at(&rows, scopes.int_class as usize).unwrap_or(0),
         string_class: found_at(&rows, scopes.string_class as usize).unwrap_or(0),
         map_class: found_at(&rows, scopes.map_class as usize).unwrap_or(0),

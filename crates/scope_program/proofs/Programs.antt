@@ -90,18 +90,20 @@ started spaces ys name root same below at =
     (sym (ap (λ o. find (λ (d : Declaration). can_start d.kind) (own_in o name)) first ∙ find_filter (is_named name) (λ (d : Declaration). can_start d.kind) root.declarations))
 
 -- what a loaded program's names mean, by what is made for it
-pub scoping-made : (state : State) (texts : List Text) (homes : List ℕ) (all : List Declared) (spaces : List Library) (libraries : List LibraryNames)
-    → homes ≡ homes_of state → texts ≡ table.names_of homes state.units → all ≡ numbered (all_declared texts homes state.units)
-    → AreLibraries texts (entries texts all (flat_map unit_kinds state.units)) state spaces
-    → AreAllNames texts (record { libraries = spaces; numbered = all }) libraries
-    → IsScoping state (scoping_of texts homes all spaces libraries state.units)
-scoping-made state texts homes all spaces libraries at named numbers are names = record {
-  texts = named ∙ ap (λ h. table.names_of h state.units) at;
+pub scoping-made : (state : State) (kept texts : List Text) (homes : List ℕ) (all : List Declared) (spaces : List Library) (libraries : List LibraryNames)
+    → homes ≡ homes_of state → kept ≡ table.kept_names homes state.units → texts ≡ table.all_names homes state.units
+    → all ≡ numbered (all_declared kept homes state.units)
+    → AreLibraries kept (entries kept all (flat_map unit_kinds state.units)) state spaces
+    → AreAllNames kept (record { libraries = spaces; numbered = all }) libraries
+    → IsScoping state (scoping_of kept texts homes all spaces libraries state.units)
+scoping-made state kept texts homes all spaces libraries at named spelt numbers are names = record {
+  kept = named ∙ ap (λ h. table.kept_names h state.units) at;
+  texts = spelt ∙ ap (λ h. table.all_names h state.units) at;
   homes = at;
-  numbered = numbers ∙ ap (λ h. numbered (all_declared texts h state.units)) at;
+  numbered = numbers ∙ ap (λ h. numbered (all_declared kept h state.units)) at;
   spaces = spaces;
   are_libraries = are;
-  names = names-each texts (record { libraries = spaces; numbered = all }) libraries names;
+  names = names-each kept (record { libraries = spaces; numbered = all }) libraries names;
   classes = ap (λ h. class_scopes all h state.units) at;
   core = ap (λ h. slice_index_or h CORE_UNIT 0) at;
   main = refl;

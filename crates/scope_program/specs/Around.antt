@@ -45,7 +45,7 @@ names_in_header s (Some c) = known_names (length s.classes) (length c.parameters
 abbrev pub names_in_class : Scoping → Option ClassScope → Names
 names_in_class s None = no_names 0
 names_in_class s (Some c) = known_names (length s.classes) (length c.parameters)
-    (inside.class_names s.texts s.numbered c.declaration c.parameters (record (names_in s c.library) { library = c.library }))
+    (inside.class_names s.kept s.numbered c.declaration c.parameters (record (names_in s c.library) { library = c.library }))
 
 -- where names are looked up: in a library, or in a class of it
 abbrev pub names_at : Scoping → ℕ → Option ClassId → Names
@@ -59,11 +59,11 @@ header_names_at s library (Some k) = names_in_header s (slice_get s.classes k.0)
 -- what a class declares as static, and its constructors
 abbrev pub static_in : Scoping → Option ClassScope → Text → Meaning
 static_in s None name = m.unknown
-static_in s (Some c) name = inside.static s.texts s.numbered c.declaration name
+static_in s (Some c) name = inside.static s.kept s.numbered c.declaration name
 
 abbrev pub constructor_in : Scoping → Option ClassScope → Text → Made
 constructor_in s None id = m.no_constructor
-constructor_in s (Some c) id = constructor_of s.texts s.numbered c.declaration (makings c.members) id
+constructor_in s (Some c) id = constructor_of s.kept s.numbered c.declaration (makings c.members) id
 
 -- What else of the tables the headers and the signatures of classes are read with. What a class inherits isn't asked for there, and in
 -- production an annotation asks for nothing.

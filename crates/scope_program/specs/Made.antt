@@ -43,12 +43,13 @@ AreClassesOf texts numbered all made = AllZip (IsClassOf texts numbered) all mad
 -- What is made for a program: each library and class has its names, each class stands in a library, and the classes of `dart:core` that
 -- are asked for by name are found.
 pub record AreScopesOf (s : Scoping) (made : ProgramScopes) : Type 0 where
+  pub kept : made.kept ≡ s.kept
   pub texts : made.names ≡ s.texts
   pub homes : made.homes.items ≡ s.homes
   pub numbered : made.numbered.items ≡ s.numbered
   pub places : (place : Place) → at_place made.places place ≡ position_of s.numbered place
   pub libraries : map names_of made.libraries.items ≡ s.libraries
-  pub classes : AreClassesOf s.texts s.numbered s.classes made.classes.items
+  pub classes : AreClassesOf s.kept s.numbered s.classes made.classes.items
   pub housed : (n : ℕ) (c : ClassScope) → slice_get s.classes n ≡ Some c → c.library < length s.libraries
   pub core : made.core ≡ s.core
   pub main : made.main ≡ s.main
@@ -59,15 +60,16 @@ pub record AreScopesOf (s : Scoping) (made : ProgramScopes) : Type 0 where
 -- ---- Means of proof, which no public contract cites
 
 -- what names mean in a program whose libraries have these namespaces and dictionaries
-abbrev pub scoping_of : List Text → List ℕ → List Declared → List Library → List LibraryNames → List UnitTree → Scoping
-scoping_of texts homes numbered spaces libraries units = record {
+abbrev pub scoping_of : List Text → List Text → List ℕ → List Declared → List Library → List LibraryNames → List UnitTree → Scoping
+scoping_of kept texts homes numbered spaces libraries units = record {
+  kept = kept;
   texts = texts;
   homes = homes;
   numbered = numbered;
   libraries = map names_of libraries;
   classes = class_scopes numbered homes units;
   core = slice_index_or homes CORE_UNIT 0;
-  main = option_map (λ d. d.number) (find (λ d. can_start d.kind) (own spaces 0 (number_in texts (codes "main"))));
+  main = option_map (λ d. d.number) (find (λ d. can_start d.kind) (own spaces 0 (number_in kept (codes "main"))));
 }
 
 -- the number of the class of that name in a library, among what is made for classes

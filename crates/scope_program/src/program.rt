@@ -26,7 +26,7 @@ use scope_declared::number::number_of;
 use scope_dictionary::library::{LibraryNames, all_names};
 use scope_library::library::{CORE_UNIT, homes};
 use scope_load::loaded::Loaded;
-use scope_name::table::names_of;
+use scope_name::table::{kept_names, with_names};
 use scope_outer::meaning::Scopes;
 use scope_outer::sense::{Numbered, class_numbers};
 use scope_space::entry::main_of;
@@ -36,7 +36,9 @@ use std::alloc::{AllocError, Global};
 /// What the names of a loaded program mean, with classes numbered as they are declared (ECMA-408, 16.33 Identifier Reference).
 #[derive(Drop)]
 pub struct ProgramScopes {
-    /// The table of names.
+    /// The names that the units have without their annotations: all that can be declared and meant.
+    pub kept: Names,
+    /// The table of names: these, and behind them what only annotations spell.
     pub names: Names,
     /// The number of the library of each unit.
     pub homes: Vec<u32>,
@@ -149,10 +151,11 @@ fn class_called(classes: &[ClassScope], library: u32, name: &[u8]) -> Result<u32
     }
 }
 
-// What names mean in a program, from its table of names, the libraries of its units, the declarations that have numbers, and the namespaces of
+// What names mean in a program, from its names without and with annotations, the libraries of its units, the declarations that have numbers, and the namespaces of
 // its libraries.
 fn scopes_in(
     alloc: Global,
+    kept: Names,
     names: Names,
     homes: Vec<u32>,
     numbered: Vec<Declared>,
@@ -160,15 +163,15 @@ fn scopes_in(
     units: &[Unit],
 ) -> Result<ProgramScopes, Want>
     requires { length numbered.items < 2 ^ 32 }
-    ensures { IfOk result (λ made. (libraries : List LibraryNames) × AreAllNames names (record { libraries = spaces.now; numbered = numbered.items }) libraries
-        × AreScopesOf (scoping_of names homes.items numbered.items spaces.now libraries (map view.unit units.now)) made) }
+    ensures { IfOk result (λ made. (libraries : List LibraryNames) × AreAllNames kept (record { libraries = spaces.now; numbered = numbered.items }) libraries
+        × AreScopesOf (scoping_of kept names homes.items numbered.items spaces.now libraries (map view.unit units.now)) made) }
 {
     let declared = numbered.as_slice();
     let unit_homes = homes.as_slice();
-    let libraries = library_names(alloc, &names, declared, spaces)?;
+    let libraries = library_names(alloc, &kept, declared, spaces)?;
     let places = places_of(alloc, declared)?;
     let declarations = Declarations {
-        names: &names,
+        names: &kept,
         numbered: declared,
         places: &places,
     };
@@ -179,11 +182,12 @@ fn scopes_in(
         return Err(Want);
     }
     let core = core_library(unit_homes);
-    let main = main_in(alloc, &names, spaces)?;
+    let main = main_in(alloc, &kept, spaces)?;
     let int_class = class_called(all, core, b"int")?;
     let string_class = class_called(all, core, b"String")?;
     let map_class = class_called(all, core, b"Map")?;
     Ok(ProgramScopes {
+        kept,
         names,
         homes,
         numbered,
@@ -208,11 +212,12 @@ pub fn program_scopes(alloc: Global, loaded: &Loaded) -> Result<ProgramScopes, W
     }
     let units = loaded.units.as_slice();
     let homes = homes(alloc, loaded)?;
-    let names = names_of(alloc, &homes, units)?;
-    let numbered = numbered_in(alloc, &names, &homes, units)?;
+    let kept = kept_names(alloc, &homes, units)?;
+    let numbered = numbered_in(alloc, &kept, &homes, units)?;
     if numbered.len() > u32::MAX as usize {
         return Err(Want);
     }
-    let spaces = spaces_of(alloc, &names, &numbered, loaded)?;
-    scopes_in(alloc, names, homes, numbered, &spaces, units)
+    let spaces = spaces_of(alloc, &kept, &numbered, loaded)?;
+    let names = with_names(alloc, &kept, &homes, units)?;
+    scopes_in(alloc, kept, names, homes, numbered, &spaces, units)
 }

@@ -24,7 +24,7 @@ returns-in-Ok c =
     let k = c.in_ok-numbered-in-Ok.numbered in
     let (s, is, h) = c.in_ok-scopes.ensures in
     IfOk-weaker c.translate.result
-    (λ out. (s : Scoping) → AreScopesOf s made → (main : ℕ) × (s.main ≡ Some main) × Follows state s.texts k mode budget (p.core (given_of s state k main)) out)
+    (λ out. (s : Scoping) → AreScopesOf s made → (main : ℕ) × (s.main ≡ Some main) × Follows state s.kept s.texts k mode budget (p.core (given_of s state k main)) out)
     (ExecutesAs state options)
     (λ out known.
     let (main, starts, follows) = known s h in (

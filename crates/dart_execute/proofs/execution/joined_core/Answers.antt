@@ -14,6 +14,7 @@ returns-clause-core c a texts is =
     let inside : AreWithin (length made.names) (pv.program (record made { classes = k })) = c.if-not-are_within.ensures.0 refl in
     record {
       names = names;
+      classes = refl;
       same = same_texts a made k (names ∙ sym texts) (subst (λ (l : Classes). IsJoined a l k) (sym c.in_ok-made.ensures.classes) is)
           ∙ c.in_ok-made.ensures.program a texts;
       within = subst (λ (t : List (List ℕ)). AreWithin (length t) (pv.program (record made { classes = k }))) names inside;

@@ -23,9 +23,9 @@ returns-in-Accepted c =
     let budget = allowed c.args.options.budget in
     IfOk-weaker c.run_translated.result
     (λ out. (a : Around) → a.texts ≡ c.args.scopes.names → IsJoined a translated.classes k
-    → RunsIf (mentions_isolate state) c.args.scopes.names k (views.program a translated) mode budget out)
+    → RunsIf (mentions_isolate state) c.args.scopes.kept c.args.scopes.names k (views.program a translated) mode budget out)
     (λ out. (s : Scoping) → AreScopesOf s c.args.scopes → (main : ℕ) × (s.main ≡ Some main)
-    × Follows state s.texts k mode budget (p.core (given_of s state k main)) out)
+    × Follows state s.kept s.texts k mode budget (p.core (given_of s state k main)) out)
     (λ out runs s h.
     let a = annotated_around s state k in
     let of = views.program a translated in
@@ -33,7 +33,8 @@ returns-in-Accepted c =
     let is : IsJoined a translated.classes k = joined a (given_of s state k n) k translated refl refl refl core in (
       n,
       sym h.main ∙ c.in-Some.is,
-      subst (λ (answer : p.Answer). Follows state s.texts k mode budget answer out) (sym core)
-          (subst (λ (t : List Text). RunsIf (mentions_isolate state) t k of mode budget out) h.texts (runs a (sym h.texts) is)),
+      subst (λ (answer : p.Answer). Follows state s.kept s.texts k mode budget answer out) (sym core)
+          (subst (λ (t : List Text). RunsIf (mentions_isolate state) t s.texts k of mode budget out) h.kept
+          (subst (λ (t : List Text). RunsIf (mentions_isolate state) c.args.scopes.kept t k of mode budget out) h.texts (runs a (sym h.texts) is))),
     ))
     c.run_translated.ensures

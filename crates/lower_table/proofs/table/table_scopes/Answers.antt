@@ -36,7 +36,7 @@ returns c = λ s h.
       parameters = (c.in_ok-parameter_counts.ensures x.names ∙ ap (λ (l : List ClassInfo). parameter_counts (rows x.names l)) c.deref-12.ensures.value) i;
       constructors = (c.in_ok-added.ensures.constructors
           ∙ (λ j. constructors_added source.written source.count (added_rows all ((c.deref-10.ensures.value ∙ applied) j) ((c.deref-11.ensures.value ∙ classes) j)))) i;
-      natives = (c.in_ok-natives.ensures ∙ ap (natives x.names) c.deref-13.ensures.value) i;
+      natives = (c.in_ok-natives.ensures ∙ ap (natives x.kept) c.deref-13.ensures.value) i;
       int_class = (c.unwrap_or.ensures ∙ ap (λ o. unwrap_or o 0) (c.found_at.ensures ∙ ap (λ l. found_at l x.int_class) (c.deref-14.ensures.value ∙ declared))) i;
       string_class = (c.unwrap_or-2.ensures ∙ ap (λ o. unwrap_or o 0) (c.found_at-2.ensures ∙ ap (λ l. found_at l x.string_class) (c.deref-15.ensures.value ∙ declared))) i;
       map_class = (c.unwrap_or-3.ensures ∙ ap (λ o. unwrap_or o 0) (c.found_at-3.ensures ∙ ap (λ l. found_at l x.map_class) (c.deref-16.ensures.value ∙ declared))) i;

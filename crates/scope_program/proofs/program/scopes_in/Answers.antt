@@ -14,7 +14,7 @@ use Rattle.scope_program.proofs.program.scopes_in.Goals as goal
 
 pub returns : goal.returns
 returns c =
-    let texts = c.args.names in
+    let texts = c.args.kept in
     let numbered = c.args.numbered.items in
     let homes = c.args.homes.items in
     let units = map view.unit c.args.units.now in
@@ -42,6 +42,7 @@ returns c =
       libraries,
       names,
       record {
+        kept = refl;
         texts = refl;
         homes = refl;
         numbered = refl;
