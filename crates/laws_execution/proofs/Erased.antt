@@ -80,7 +80,7 @@ classes_below count x k is within =
     subst (AreBelow count) is (record { classes = front Below classes members two; members = rear Below classes members two })
 
 module _ (state : State) (s : Scoping) (more : List Text) (begins : s.texts ≡ s.kept ++ more) (distinct : AreDistinct s.texts)
-    (keep : KeepSuper (source_units state)) (b : Budget) (made other : Written) (is : HasRun state s b made)
+    (own_distinct : AreDistinct s.kept) (keep : KeepSuper (source_units state)) (b : Budget) (made other : Written) (is : HasRun state s b made)
     (so : HasRun (erased_state state) (own (erased_scoping s) more begins) b other) where
   abbrev without : Scoping
   without = erased_scoping s
@@ -107,12 +107,12 @@ module _ (state : State) (s : Scoping) (more : List Text) (begins : s.texts ≡ 
   from_erased : IsTableFrom (class_given without) (source_units (erased_state state)) s.texts so.table.built
   from_erased = subst (λ (t : List Text). IsTableFrom (class_given without) (source_units (erased_state state)) t so.table.built) (sym begins)
       (table_longer s.kept more (class_given without) (source_units (erased_state state)) so.table.built
-      (as_table (class_given without) (source_units (erased_state state)) s.kept so.table.built so.table.is_built))
+      (as_table (class_given without) (source_units (erased_state state)) s.kept own_distinct so.table.built so.table.is_built))
 
   differ : DifferInSignaturesAlone s.texts so.classes is.classes
   differ = tables_differ s state is.table.built so.table.built is.classes so.classes distinct keep
       (built_roots (class_given s) (source_units state) s.texts distinct is.table.built is.table.is_built)
-      (as_table (class_given s) (source_units state) s.texts is.table.built is.table.is_built) is.table.numbered
+      (as_table (class_given s) (source_units state) s.texts distinct is.table.built is.table.is_built) is.table.numbered
       from_erased (numbered_same without more begins so.table.built so.classes below so.table.numbered)
 
   -- ---- the cores, and what runs of them
@@ -151,5 +151,6 @@ erased_runs state b made other keep run also =
     let (t, own_is, own_distinct, own_has) = has_run (erased_state state) b other also in
     let names = all_begin (homes_of state) state.units in
     let begins : s.texts ≡ s.kept ++ names.0 = is.texts ∙ names.1 ∙ ap (λ (kept : List Text). kept ++ names.0) (sym is.kept) in
-    same_run state s names.0 begins distinct keep b made other has
-    (subst (λ (r : Scoping). HasRun (erased_state state) r b other) (own_scoping state s t is own_is) own_has)
+    let same : t ≡ own (erased_scoping s) names.0 begins = own_scoping state s t is own_is in
+    same_run state s names.0 begins distinct (subst (λ (r : Scoping). AreDistinct r.texts) same own_distinct) keep b made other has
+    (subst (λ (r : Scoping). HasRun (erased_state state) r b other) same own_has)

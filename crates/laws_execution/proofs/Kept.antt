@@ -28,7 +28,11 @@ pub record AreBelow (count : ℕ) (k : Classes) : Type 0 where
   pub classes : All (λ n. n < count) (flat_map class_names (map pv.class k.classes.items))
   pub members : All (λ n. n < count) (flat_map member_names (map pv.member k.members.items))
 
--- the members of a table with names as texts
+-- a row of a table with names as texts
+abbrev row : List Text → ClassInfo → c.Class Text
+row texts x = named.class (pv.text_at texts) (pv.class x)
+
+-- and its members
 abbrev members_in : List Text → Classes → List (c.Member Text)
 members_in texts k = map (λ (x : MemberInfo). named.member (pv.text_at texts) (pv.member x)) k.members.items
 
@@ -80,10 +84,6 @@ module _ (s : Scoping) (more : List Text) (begins : s.texts ≡ s.kept ++ more) 
     members = is.members ∙ (λ i. all_numbered s.numbered (starts_of (source_of s) (rows i)) (map pv.member built.members.items));
   }
     where
-      row : List Text → ClassInfo → c.Class Text
-      row texts x = named.class (pv.text_at texts) (pv.class x)
-
       rows : rows_of s.kept built ≡ rows_of s.texts built
-      unfolding row
       rows = ap (λ (xs : Vec ClassInfo Global). map (row s.kept) xs.items) (sym is.classes) ∙ rows_same k below
           ∙ ap (λ (xs : Vec ClassInfo Global). map (row s.texts) xs.items) is.classes
