@@ -5,3 +5,5 @@ pub mod check;
 pub mod erased;
 pub mod fault;
 pub mod unit;
+
+pub use dart_parse::parse::parse;

@@ -27,6 +27,7 @@ use dart_tree::expression::Arguments;
 use dart_tree::identifier::DotName;
 use dart_tree::parameter::Parameters;
 use dart_tree::statement::Body;
+use lower_decl::block_of;
 use lower_decl::declare::Heading;
 use lower_decl::outermost::{begin, end};
 use lower_function::inside::{clone_inside, leave_inside};
@@ -36,7 +37,6 @@ use lower_leaf::inner::Inner;
 use lower_leaf::name::{own_text, place_of};
 use lower_leaf::state::{State, depth, leave_scope};
 use lower_leaf::surroundings::Surroundings;
-use lower_stmt::body::block_of;
 use std::alloc::Global;
 use std::mem::replace;
 

@@ -6,3 +6,7 @@ pub mod native;
 pub mod outermost;
 pub mod standing;
 pub mod variable;
+
+pub use lower_stmt::body::block_of;
+pub use lower_stmt::knot::function_literal;
+pub use lower_stmt::{arguments, cascaded, expr, operand};

@@ -21,7 +21,6 @@ use dart_tree::expression::Value;
 use dart_tree::identifier::Identifier;
 use dart_tree::parameter::Parameters;
 use dart_tree::statement::{Body, Variable, Variables};
-use lower_expr::lower::expr;
 use lower_function::function::numbered;
 use lower_function::inside::leave_inside;
 use lower_function::shared::initialiser_cells;
@@ -34,7 +33,7 @@ use lower_leaf::site::{checked, unasked};
 use lower_leaf::state::{Asked, NumberedStatic, State, clone_asked};
 use lower_leaf::surroundings::Surroundings;
 use lower_leaf::types::{asked_of_kind, is_const, is_final};
-use lower_operand::create::meeting_constant;
+use lower_stmt::{expr, meeting_constant};
 use std::alloc::Global;
 use std::mem::replace;
 

@@ -8,3 +8,7 @@ pub mod object;
 pub mod row;
 pub mod selector;
 pub mod text;
+
+pub use lower_operand::condition::null;
+pub use lower_operand::create::meeting_constant;
+pub use lower_operand::literal::append;

@@ -29,7 +29,7 @@ use lower_leaf::surroundings::Surroundings;
 use lower_operand::literal::{
     Joined, append, join, join_parts, literal as literal_of, pending_literal, to_string,
 };
-use lower_string::whole::{constant_units, parts_of};
+use lower_operand::{constant_units, parts_of};
 use std::alloc::Global;
 
 /// A string (ECMA-408, 16.5 Strings).

@@ -3,3 +3,8 @@
 
 pub mod apply;
 pub mod forward;
+
+pub use lower_decl::declare::{accessor, function};
+pub use lower_decl::function_literal;
+pub use lower_decl::standing::static_standing;
+pub use lower_decl::variable::variables_declared;

@@ -8,3 +8,5 @@ pub mod operator;
 pub mod step;
 pub mod super_operator;
 pub mod type_test;
+
+pub use lower_string::whole::{constant_units, parts_of};

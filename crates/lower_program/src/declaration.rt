@@ -13,15 +13,13 @@ use dart_tree::parameter::Parameters;
 use dart_tree::statement::Body;
 use lower_body::class::{ClassMade, class_declared};
 use lower_body::kept::parameters_kept;
-use lower_decl::declare::{accessor, function};
-use lower_decl::standing::static_standing;
-use lower_decl::variable::variables_declared;
 use lower_function::function::numbered;
 use lower_leaf::fault::{LowerFault, Want};
 use lower_leaf::inner::Inner;
 use lower_leaf::meaning::Outer;
 use lower_leaf::state::State;
 use lower_leaf::surroundings::Surroundings;
+use lower_mixin::{accessor, function, static_standing, variables_declared};
 use lower_operand::create::meeting_constant;
 use std::alloc::Global;
 

@@ -29,7 +29,7 @@ use lower_leaf::site::unasked;
 use lower_leaf::state::{Inside, State};
 use lower_leaf::surroundings::Surroundings;
 use lower_mixin::apply::added;
-use lower_stmt::knot::function_literal;
+use lower_mixin::function_literal;
 use std::alloc::Global;
 
 /// A program in the core language. Its names are those of the table that the surroundings have.

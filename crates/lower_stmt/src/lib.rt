@@ -11,3 +11,7 @@ pub mod part;
 pub mod statement;
 pub mod value;
 pub mod variable;
+
+pub use lower_expr::list::arguments;
+pub use lower_expr::lower::{cascaded, expr, operand};
+pub use lower_expr::meeting_constant;

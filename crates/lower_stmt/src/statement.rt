@@ -27,12 +27,12 @@ use lower_clause::jump::{
     add_labels, enter_target, jumping, labelled_forms, leave_target, target_number,
 };
 use lower_clause::part::alone;
+use lower_expr::append;
 use lower_leaf::fault::LowerFault;
 use lower_leaf::form::{choice, missing};
 use lower_leaf::inner::Inner;
 use lower_leaf::state::{State, TargetKind};
 use lower_leaf::surroundings::Surroundings;
-use lower_operand::literal::append;
 use std::alloc::Global;
 
 /// Statements in order (17.1 Blocks).

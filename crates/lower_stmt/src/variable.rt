@@ -22,6 +22,7 @@ use dart_tree::parameter::Parameters;
 use dart_tree::statement::{Body, Variable, Variables};
 use lower_clause::part::alone;
 use lower_expr::lower::expr;
+use lower_expr::{append, meeting_constant, null};
 use lower_leaf::fault::LowerFault;
 use lower_leaf::first::{first_of_expr, first_of_variables};
 use lower_leaf::form::unary;
@@ -31,9 +32,6 @@ use lower_leaf::site::checked;
 use lower_leaf::state::{Asked, State, clone_asked, declared};
 use lower_leaf::surroundings::Surroundings;
 use lower_leaf::types::{asked_of_kind, is_const, is_final};
-use lower_operand::condition::null;
-use lower_operand::create::meeting_constant;
-use lower_operand::literal::append;
 use std::alloc::Global;
 
 /// After its initial value a variable is in scope.

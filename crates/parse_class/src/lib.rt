@@ -7,3 +7,6 @@ pub mod look;
 pub mod member;
 pub mod part;
 pub mod type_parameter;
+
+pub use parse_callable::accessor::accessor;
+pub use parse_callable::function::function;

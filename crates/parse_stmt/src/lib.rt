@@ -5,3 +5,5 @@ pub mod attempt;
 pub mod branch;
 pub mod iterate;
 pub mod statement;
+
+pub use parse_block::block::block_over;

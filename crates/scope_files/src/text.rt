@@ -8,8 +8,8 @@ ghost use Rattle.scope_load.specs.Found.{found_is, take_failed};
 
 use dart_base::limit::UNIT_WEIGHT;
 use dart_front::fault::TextFault;
+use dart_front::parse;
 use dart_lex::lexer::{LexFault, lex};
-use dart_parse::parse::parse;
 use dart_token::token::Token;
 use dart_tree::unit::Unit;
 use parse_unit::fault::ParseFault;
