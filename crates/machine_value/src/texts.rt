@@ -45,18 +45,17 @@ pub fn append_text(run: &Run, a: Around, value: Value, units: &mut Units) -> Res
 }
 
 /// Adds the units of strings to others, and says whether all are strings.
-#[tactic(auto, using(crate::proofs::Joined::behind_again, crate::proofs::Joined::behind_all))]
+#[tactic(auto, using(crate::proofs::Joined::part_joins, crate::proofs::Joined::part_stops, crate::proofs::Joined::parts_end))]
 fn append_all(run: &Run, a: Around, values: &[Value], units: &mut Units) -> Result<bool, Fault>
     ensures all { IfOk result (λ all. all ≡ true → behind (Some units.old) (joined (setting_of a.entry) run.now.store values.now) ≡ Some units.new) }
     ensures other { IfOk result (λ all. all ≡ false → joined (setting_of a.entry) run.now.store values.now ≡ None) }
 {
-    let Some((first, rest)) = values.split_first() else {
-        return Ok(true);
-    };
-    if !append_text(run, a, *first, units)? {
-        return Ok(false);
+    for value in values {
+        if !append_text(run, a, *value, units)? {
+            return Ok(false);
+        }
     }
-    append_all(run, a, rest, units)
+    Ok(true)
 }
 
 /// The texts of the last operands in one string.
