@@ -1,6 +1,8 @@
 // The program: the words after its name, the files of the system, and standard output.
 #![tactic(auto)]
 
+mod law;
+
 use dart_edge::gate::OpenGate;
 use dart_edge::real::{Folder, StdSink};
 use dart_tool::status::Status;

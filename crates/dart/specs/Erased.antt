@@ -1,0 +1,36 @@
+-- Files in which a program stands without its annotations, and what becomes of it.
+use Rattle.std.specs.Prelude.{◌≡◌, ℕ, List, false, IfSome}
+use Rattle.dart_class.specs.Given.{source_units}
+use Rattle.dart_edge.specs.Files.{Files, file_of}
+use Rattle.dart_tool.specs.declared.outcome.Outcome.{Outcome}
+use Rattle.dart_tool.specs.declared.status.Status.TheVariants.{Refused}
+use Rattle.dart_tool.specs.Language.{IsWhole}
+use Rattle.dart_tool.specs.Laws.{AskRun, within}
+use Rattle.dart_tool.specs.Outcome.{IsOutcome}
+use Rattle.dart_tool.specs.Program.{IsSound}
+use Rattle.dart_words.specs.declared.budget.Budget.{Budget}
+use Rattle.laws_annotation.specs.Erased.{erased_state}
+use Rattle.laws_annotation.specs.Super.{KeepSuper}
+use Rattle.scope_load.specs.State.{State}
+
+-- From this root the files spell a program, and the others the same program with its units erased, each token that is left at its place;
+-- erasure leaves `super` in each member that has it.
+pub record SpellErased (files others : Files) (root : List ℕ) : Type 0 where
+  pub state : State
+  pub sound : IsSound files root state
+  pub erased : IsSound others root (erased_state state)
+  pub keep : KeepSuper (source_units state)
+
+-- it was run: it is not refused, nor is it what isn't built
+abbrev pub IsRun : Outcome → Type 0
+IsRun out = out.status ≡ Refused → ⊥
+
+-- no model of the subset runs the text under this name, within this budget
+abbrev pub HasWhole : Files → List ℕ → Budget → Type 0
+HasWhole files name budget = IfSome (file_of files name) (λ text. IsWhole text (within budget false))
+
+-- In production a program and the program without its annotations, which both run, have one outcome.
+abbrev pub ErasedOutcomesAreOne : Type 0
+ErasedOutcomesAreOne = (words : List (List ℕ)) (files others : Files) (budget : Budget) (name : List ℕ) (out other : Outcome)
+    → AskRun words (within budget false) name → SpellErased files others name → HasWhole files name budget → HasWhole others name budget
+    → IsOutcome words files out → IsOutcome words others other → IsRun out → IsRun other → other ≡ out
