@@ -4,6 +4,4 @@
 pub mod check;
 pub mod law;
 pub mod reader;
-#[cfg(test)]
-mod tests;
 pub mod text;

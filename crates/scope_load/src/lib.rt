@@ -6,6 +6,4 @@ pub mod judge;
 pub mod load;
 pub mod loaded;
 pub mod reason;
-#[cfg(test)]
-mod tests;
 pub mod units;

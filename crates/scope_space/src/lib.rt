@@ -13,5 +13,3 @@ mod offer;
 mod space;
 pub mod spaces;
 pub mod table;
-#[cfg(test)]
-mod tests;

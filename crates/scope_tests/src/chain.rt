@@ -1,10 +1,10 @@
 // Chains of files, as long and as heavy as a program may be, and beyond.
-use super::Reader;
-use super::directive::{import, place};
-use crate::load::load;
-use crate::reason::{LoadFault, Reason};
-use crate::units::{Found, TakeFault, TextReason, UnitName, UnitReader};
+use crate::directive::{import, place};
+use crate::load::Reader;
 use dart_tree::unit::{Directive, Unit};
+use scope_load::load::load;
+use scope_load::reason::{LoadFault, Reason};
+use scope_load::units::{Found, TakeFault, TextReason, UnitName, UnitReader};
 use std::alloc::{AllocError, Global};
 use std::test::Fail;
 

@@ -1,13 +1,13 @@
 // The namespaces of small programs. Names are numbers here, those from 900 on private.
-use crate::bound::{Binding, Bound};
-use crate::combinator::Combinator;
-use crate::declaration::{Declaration, Kind};
-use crate::entry::main_of;
-use crate::library::{Export, Import, Library};
-use crate::spaces::Spaces;
-use crate::table::Table;
 use dart_base::name::Name;
 use dart_base::names::Names;
+use scope_space::bound::{Binding, Bound};
+use scope_space::combinator::Combinator;
+use scope_space::declaration::{Declaration, Kind};
+use scope_space::entry::main_of;
+use scope_space::library::{Export, Import, Library};
+use scope_space::spaces::Spaces;
+use scope_space::table::Table;
 use std::alloc::{AllocError, Global};
 use std::process::Abort;
 use std::test::Fail;

@@ -2,16 +2,13 @@
 ghost use Rattle.std.specs.Prelude.{◌≡◌, false};
 ghost use Rattle.scope_load.specs.Found.{take_failed};
 
-mod chain;
-mod directive;
-
-use self::directive::{import, name, pieces, place};
-use crate::load::load;
-use crate::loaded::Loaded;
-use crate::reason::{LoadFault, Reason};
-use crate::units::{Found, TakeFault, TextReason, UnitName, UnitReader};
+use crate::directive::{import, name, pieces, place};
 use dart_base::place::Place;
 use dart_tree::unit::{Directive, DirectiveKind, Unit};
+use scope_load::load::load;
+use scope_load::loaded::Loaded;
+use scope_load::reason::{LoadFault, Reason};
+use scope_load::units::{Found, TakeFault, TextReason, UnitName, UnitReader};
 use std::alloc::{AllocError, Global};
 use std::str::from_utf8;
 use std::test::Fail;
@@ -128,7 +125,7 @@ impl Files {
 }
 
 // Reads files in memory.
-struct Reader;
+pub(super) struct Reader;
 
 impl UnitReader<Files> for Reader {
     ghost use Rattle.std.specs.Prelude.{⊤, None};

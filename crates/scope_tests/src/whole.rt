@@ -1,7 +1,7 @@
 // The reasons against programs whose units are all loaded.
-use super::{File, pairs};
-use crate::check::{Checked, check};
+use crate::files::{File, pairs};
 use dart_edge::memory::NoFaultSources;
+use scope_files::check::{Checked, check};
 use scope_load::units::UnitName;
 use scope_reason::reason::ProgramReason;
 use std::alloc::{AllocError, Global};

@@ -1,19 +1,17 @@
 // Programs over files in memory.
-mod whole;
-
-use crate::check::{Checked, check};
-use crate::reader::FileReader;
 use dart_base::bytes::Bytes;
 use dart_edge::memory::{MemSources, NoFaultSources};
+use scope_files::check::{Checked, check};
+use scope_files::reader::FileReader;
 use scope_load::load::load;
 use scope_load::reason::{LoadFault, Reason};
 use scope_load::units::{TextReason, UnitName};
 use std::alloc::{AllocError, Global};
 use std::test::Fail;
 
-type File = (&'static str, &'static str);
+pub(super) type File = (&'static str, &'static str);
 
-fn pairs(alloc: Global, files: &[File]) -> Result<Vec<(Bytes, Bytes)>, AllocError> {
+pub(super) fn pairs(alloc: Global, files: &[File]) -> Result<Vec<(Bytes, Bytes)>, AllocError> {
     let mut pairs = Vec::new(alloc);
     for (name, text) in files {
         let name = Bytes::from_slice(alloc, name.as_bytes())?;
