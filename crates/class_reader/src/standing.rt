@@ -10,6 +10,7 @@ ghost use Rattle.class_reader.specs.Given.{source_unit};
 use crate::home::Home;
 use class_fault::program::Standing;
 use class_source::standing::{has_constructor, has_external};
+use dart_erase::erase_member;
 use dart_token::token::{Token, TokenKind};
 use dart_token::word::Word;
 use dart_tree::declaration::Member;
@@ -50,11 +51,12 @@ fn has_super(tokens: &[Token]) -> bool
     tokens.iter().any(|token| is_super(token))
 }
 
-// Whether the word `super` stands in a member.
+// Whether the word `super` stands in a member without its annotations.
 fn member_names_super(alloc: Global, member: &Member) -> Result<bool, AllocError>
     ensures { IfOk result (λ made. made ≡ m.names_super (unit_view.member member.now)) }
 {
-    let tokens = member_tokens(alloc, member)?;
+    let bare = erase_member(alloc, member)?;
+    let tokens = member_tokens(alloc, &bare)?;
     Ok(has_super(&tokens))
 }
 

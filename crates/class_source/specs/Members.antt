@@ -11,6 +11,7 @@ use Rattle.dart_token.specs.declared.word.Word.TheVariants as w
 use Rattle.dart_tree.specs.Tree as t
 use Rattle.dart_tree.specs.Unit as u
 use Rattle.dart_tree.specs.UnitTokens.{member_tokens}
+use Rattle.dart_erase.specs.UnitErased as erased
 use Rattle.dart_ir.specs.declared.class.Role.{Role}
 use Rattle.dart_ir.specs.declared.class.Role.TheVariants.{Method, Getter, Setter}
 use Rattle.translation.specs.Surroundings.{Ty, name_in}
@@ -127,6 +128,6 @@ abbrev pub is_super : TokenKind → Bool
 is_super (tk.Word w.Super) = true
 is_super other = false
 
--- whether the word `super` stands among its tokens
+-- Whether the word `super` stands among its tokens without annotations: what stands in the parameters of a parameter is never evaluated.
 abbrev pub names_super : u.Member → Bool
-names_super x = list_any (λ (token : Token). is_super token.kind) (member_tokens x)
+names_super x = list_any (λ (token : Token). is_super token.kind) (member_tokens (erased.member x))

@@ -53,7 +53,7 @@ erased_outcomes_are_one words files others budget name out other asks spell whol
     (subst (λ (command : Option Command). CommandGives command files out) asks is) in
     let (bare, ends, f) = given others name budget (file_of others name) other also ran
     (subst (λ (command : Option Command). CommandGives command others other) asks so) in
-    let one : bare ≡ made = erased_runs spell.state (allowed budget) made bare spell.keep
+    let one : bare ≡ made = erased_runs spell.state (allowed budget) made bare
     (ran_of files name budget spell.state made spell.sound finishes)
     (ran_of others name budget (erased_state spell.state) bare spell.erased ends) in
     f ∙ ap written_outcome one ∙ sym e

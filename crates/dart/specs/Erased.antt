@@ -1,6 +1,5 @@
 -- Files in which a program stands without its annotations, and what becomes of it.
 use Rattle.std.specs.Prelude.{◌≡◌, ℕ, List, false, IfSome}
-use Rattle.dart_class.specs.Given.{source_units}
 use Rattle.dart_edge.specs.Files.{Files, file_of}
 use Rattle.dart_tool.specs.declared.outcome.Outcome.{Outcome}
 use Rattle.dart_tool.specs.declared.status.Status.TheVariants.{Refused}
@@ -10,16 +9,13 @@ use Rattle.dart_tool.specs.Outcome.{IsOutcome}
 use Rattle.dart_tool.specs.Program.{IsSound}
 use Rattle.dart_words.specs.declared.budget.Budget.{Budget}
 use Rattle.laws_annotation.specs.Erased.{erased_state}
-use Rattle.laws_annotation.specs.Super.{KeepSuper}
 use Rattle.scope_load.specs.State.{State}
 
--- From this root the files spell a program, and the others the same program with its units erased, each token that is left at its place;
--- erasure leaves `super` in each member that has it.
+-- From this root the files spell a program, and the others the same program with its units erased, each token that is left at its place.
 pub record SpellErased (files others : Files) (root : List ℕ) : Type 0 where
   pub state : State
   pub sound : IsSound files root state
   pub erased : IsSound others root (erased_state state)
-  pub keep : KeepSuper (source_units state)
 
 -- it was run: it is not refused, nor is it what isn't built
 abbrev pub IsRun : Outcome → Type 0

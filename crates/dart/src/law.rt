@@ -2,8 +2,7 @@
 ghost use Rattle.dart.specs.Erased.{ErasedOutcomesAreOne};
 
 /// In production a program that runs and the same program without its annotations have one outcome: they write the same bytes and end
-/// with the same status, where erasure leaves `super` in each member that has it. It says nothing of programs that the model of the
-/// subset runs.
+/// with the same status. It says nothing of programs that the model of the subset runs.
 pub fn erased_outcomes_are_one()
     ensures { ErasedOutcomesAreOne }
 {}

@@ -205,7 +205,7 @@ twice_member_kind (u.accessor_member x) = ap u.accessor_member (twice_accessor x
 twice_member_kind (u.variables_member x) = ap u.variables_member (twice_variables x)
 twice_member_kind (u.operator_member x) = ap u.operator_member (twice_operator_member x)
 
-twice_member : (x : u.Member) → of_unit.member (of_unit.member x) ≡ of_unit.member x
+pub twice_member : (x : u.Member) → of_unit.member (of_unit.member x) ≡ of_unit.member x
 twice_member x = ap (λ (z : t.Metadata). let r : u.Member = record { metadata = z; modifier = x.modifier; kind = of_unit.member_kind (of_unit.member_kind x.kind) } in r) (twice_metadata x.metadata) ∙ ap (λ (z : u.MemberKind). let r : u.Member = record { metadata = erased.metadata x.metadata; modifier = x.modifier; kind = z } in r) (twice_member_kind x.kind)
 
 twice_class_kind : (x : u.ClassKind) → of_unit.class_kind (of_unit.class_kind x) ≡ of_unit.class_kind x

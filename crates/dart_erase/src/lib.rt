@@ -9,3 +9,5 @@ mod leaf;
 mod member;
 mod statement;
 pub mod unit;
+
+pub use member::erase_member;

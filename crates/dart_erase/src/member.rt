@@ -290,7 +290,7 @@ fn erase_member_kind(alloc: Global, tree: &MemberKind) -> Result<MemberKind, All
 }
 
 /// A member of a class, with its metadata (ECMA-408, 10 Classes).
-fn erase_member(alloc: Global, tree: &Member) -> Result<Member, AllocError>
+pub fn erase_member(alloc: Global, tree: &Member) -> Result<Member, AllocError>
     ensures { IfOk result (λ x. unit_view.member x ≡
         unit_erased.member (unit_view.member tree.now)) }
 {

@@ -14,7 +14,5 @@ mod Signatures
 mod Members
 mod Rows
 pub mod Given
-mod Supers
-mod Mixable
 mod Reached
 pub mod Tabled

@@ -4,11 +4,14 @@ use Rattle.std.specs.Prelude.{nat_eq}
 use Rattle.std.specs.List.{list_any}
 use Rattle.std.proofs.lemmas.List.{map-append}
 use Rattle.dart_base.specs.declared.place.Place.{Place}
+use Rattle.dart_token.specs.declared.token.Token.{Token}
 use Rattle.dart_tree.specs.Types as y
 use Rattle.dart_tree.specs.Tree as t
 use Rattle.dart_tree.specs.Unit as u
+use Rattle.dart_tree.specs.UnitTokens.{member_tokens}
 use Rattle.dart_erase.specs.Erased as erased
 use Rattle.dart_erase.specs.UnitErased as of_unit
+use Rattle.dart_erase.proofs.Twice.{twice_member}
 use Rattle.dart_ir.specs.declared.class.Role.{Role}
 use Rattle.dart_ir.specs.declared.class.Role.TheVariants.{Method}
 use Rattle.translation.specs.Surroundings.{name_in}
@@ -17,7 +20,7 @@ use Rattle.translation.specs.Types.{Word, word_of, asked_of_kind, is_final, resu
 use Rattle.translation.specs.Declarations.{Declared, count, parameter_count, function_declared, accessor_declared}
 use Rattle.translation.specs.Classes.{is_static, external_of, operator_word, operator_declared}
 use Rattle.class_source.specs.Rows.{Member}
-use Rattle.class_source.specs.Members.{is_written, Numbers, function_member, accessor_role, field_members, more_words, variable_words, variable_members, declared_by, instance_members, field_words, fields_of_member, field_count, constructor_external, written_external, is_external_member, is_constructor_member}
+use Rattle.class_source.specs.Members.{is_written, Numbers, function_member, accessor_role, field_members, more_words, variable_words, variable_members, declared_by, instance_members, field_words, fields_of_member, field_count, constructor_external, written_external, is_external_member, is_constructor_member, is_super, names_super}
 use Rattle.laws_table.specs.Loose.{loose_member}
 use Rattle.laws_annotation.proofs.Mapped.{flat_same, any_same}
 use Rattle.laws_annotation.proofs.Classes.{final_same, constructor_kind_same}
@@ -169,3 +172,11 @@ external_same xs = any_same of_unit.member is_external_member (λ x. ap (λ (o :
 
 pub constructors_same : (xs : List u.Member) → list_any is_constructor_member (map of_unit.member xs) ≡ list_any is_constructor_member xs
 constructors_same xs = any_same of_unit.member is_constructor_member (λ x. constructor_kind_same x.kind) xs
+
+-- ---- `super`, which is asked of a member without its annotations
+
+super_same : (x : u.Member) → names_super (of_unit.member x) ≡ names_super x
+super_same x = ap (λ (y : u.Member). list_any (λ (token : Token). is_super token.kind) (member_tokens y)) (twice_member x)
+
+pub supers_same : (xs : List u.Member) → list_any names_super (map of_unit.member xs) ≡ list_any names_super xs
+supers_same xs = any_same of_unit.member names_super super_same xs

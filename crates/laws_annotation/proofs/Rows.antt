@@ -1,5 +1,5 @@
--- The classes that erased units declare are those of the units, but for signatures, and for `super` in parameters of parameters.
-use Rattle.std.proofs.Common.{◌≡◌, refl, sym, ap, ◌∙◌, ℕ, ◌+◌, if◌then◌else◌, List, [], ◌∷◌, ◌++◌, length, map, Option, None, Some, ◌&&◌, is_some, false}
+-- The classes that erased units declare are those of the units, but for signatures.
+use Rattle.std.proofs.Common.{◌≡◌, refl, sym, ap, ◌∙◌, ℕ, ◌+◌, if◌then◌else◌, List, [], ◌∷◌, ◌++◌, length, map, Option, None, Some, ◌&&◌, is_some}
 use Rattle.std.specs.Prelude.{nat_eq, bytes_eq, codes, flat_map}
 use Rattle.std.specs.List.{list_any}
 use Rattle.std.proofs.lemmas.List.{map-append}
@@ -12,14 +12,14 @@ use Rattle.translation.specs.Walk.{State}
 use Rattle.translation.specs.Types.{text_of}
 use Rattle.translation.specs.ClassBodies.{members_of, is_mixed}
 use Rattle.class_source.specs.Rows.{Class}
-use Rattle.class_source.specs.Members.{instance_members, field_count, is_external_member, is_constructor_member}
+use Rattle.class_source.specs.Members.{instance_members, field_count, is_external_member, is_constructor_member, names_super}
 use Rattle.class_source.specs.Headers.{named, bound, bounds}
 use Rattle.class_source.specs.Source.{SourceUnit, Given, reading, is_basic, class_row, declared_class, declared_classes, unit_classes, class_called, core_library, classes_of}
 use Rattle.laws_annotation.specs.Erased.{erased_source}
-use Rattle.laws_table.specs.Loose.{loose_member, looser_class, looser_classes}
+use Rattle.laws_table.specs.Loose.{loose_member, loose_class, loose_classes}
 use Rattle.laws_annotation.proofs.Mapped.{map_same, length_same}
 use Rattle.laws_annotation.proofs.Classes.{mixed_same, members_same}
-use Rattle.laws_annotation.proofs.Members.{members_alike, field_count_same, external_same, constructors_same}
+use Rattle.laws_annotation.proofs.Members.{members_alike, field_count_same, external_same, constructors_same, supers_same}
 
 bounds_same : (st : State) (o : Option u.TypeParameters) → bounds st (maybe of_unit.type_parameters o) ≡ bounds st o
 bounds_same st None = refl
@@ -30,7 +30,7 @@ named_same st (u.declared_class above interfaces opening members closing) = refl
 named_same st (u.mixed_class equals above mixins interfaces semicolon) = refl
 
 module _ (given : Given) (unit : SourceUnit) where
-  class_alike : (n : ℕ) (x : u.Class) → looser_class (class_row given (erased_source unit) n (of_unit.class x)) ≡ looser_class (class_row given unit n x)
+  class_alike : (n : ℕ) (x : u.Class) → loose_class (class_row given (erased_source unit) n (of_unit.class x)) ≡ loose_class (class_row given unit n x)
   class_alike n x =
       let header : State = reading given (given.header_names n) in
       let inside : State = reading given (given.tables.class_names n) in
@@ -46,7 +46,7 @@ module _ (given : Given) (unit : SourceUnit) where
           is_basic = is_basic unit (text_of x.name);
           has_external = list_any is_external_member (members_same x.kind i);
           has_constructor = list_any is_constructor_member (members_same x.kind i);
-          names_super = false;
+          names_super = list_any names_super (members_same x.kind i);
         };
         bounds = bounds_same header x.parameters i;
         superclass = (named_same header x.kind i).superclass;
@@ -66,7 +66,7 @@ module _ (given : Given) (unit : SourceUnit) where
           is_basic = is_basic unit (text_of x.name);
           has_external = external_same (members_of x.kind) i;
           has_constructor = constructors_same (members_of x.kind) i;
-          names_super = false;
+          names_super = supers_same (members_of x.kind) i;
         };
         bounds = bounds header x.parameters;
         superclass = (named header x.kind).superclass;
@@ -76,7 +76,7 @@ module _ (given : Given) (unit : SourceUnit) where
         fields = field_count_same (members_of x.kind) i;
       })
 
-  declared_alike : (n : ℕ) (x : u.DeclKind) → map looser_class (declared_class given (erased_source unit) n (of_unit.decl_kind x)) ≡ map looser_class (declared_class given unit n x)
+  declared_alike : (n : ℕ) (x : u.DeclKind) → map loose_class (declared_class given (erased_source unit) n (of_unit.decl_kind x)) ≡ map loose_class (declared_class given unit n x)
   declared_alike n (u.class_decl x) = λ i. class_alike n x i ∷ []
   declared_alike n (u.alias_decl x) = refl
   declared_alike n (u.function_decl x) = refl
@@ -85,52 +85,52 @@ module _ (given : Given) (unit : SourceUnit) where
   declared_alike n (u.enum_decl x) = refl
 
 -- lists of classes that are alike are as long
-as_long : (xs ys : List Class) → map looser_class xs ≡ map looser_class ys → length xs ≡ length ys
-as_long xs ys e = sym (length_same looser_class xs) ∙ ap length e ∙ length_same looser_class ys
+as_long : (xs ys : List Class) → map loose_class xs ≡ map loose_class ys → length xs ≡ length ys
+as_long xs ys e = sym (length_same loose_class xs) ∙ ap length e ∙ length_same loose_class ys
 
 -- and one behind another
-behind : (xs ys us vs : List Class) → map looser_class xs ≡ map looser_class ys → map looser_class us ≡ map looser_class vs → map looser_class (xs ++ us) ≡ map looser_class (ys ++ vs)
-behind xs ys us vs e f = map-append looser_class xs us ∙ (λ i. e i ++ f i) ∙ sym (map-append looser_class ys vs)
+behind : (xs ys us vs : List Class) → map loose_class xs ≡ map loose_class ys → map loose_class us ≡ map loose_class vs → map loose_class (xs ++ us) ≡ map loose_class (ys ++ vs)
+behind xs ys us vs e f = map-append loose_class xs us ∙ (λ i. e i ++ f i) ∙ sym (map-append loose_class ys vs)
 
 module _ (given : Given) where
   declarations_alike : (unit : SourceUnit) (n : ℕ) (xs : List u.Decl) →
-      map looser_class (declared_classes given (erased_source unit) n (map of_unit.decl xs)) ≡ map looser_class (declared_classes given unit n xs)
+      map loose_class (declared_classes given (erased_source unit) n (map of_unit.decl xs)) ≡ map loose_class (declared_classes given unit n xs)
   declarations_alike unit n [] = refl
   declarations_alike unit n (x ∷ xs) =
       let before : List Class = declared_class given (erased_source unit) n (of_unit.decl_kind x.kind) in
       let after : List Class = declared_class given unit n x.kind in
       behind before after (declared_classes given (erased_source unit) (n + length before) (map of_unit.decl xs)) (declared_classes given unit (n + length after) xs)
       (declared_alike given unit n x.kind)
-      (ap (λ (m : ℕ). map looser_class (declared_classes given (erased_source unit) (n + m) (map of_unit.decl xs))) (as_long before after (declared_alike given unit n x.kind))
+      (ap (λ (m : ℕ). map loose_class (declared_classes given (erased_source unit) (n + m) (map of_unit.decl xs))) (as_long before after (declared_alike given unit n x.kind))
       ∙ declarations_alike unit (n + length after) xs)
 
-  units_alike : (n : ℕ) (units : List SourceUnit) → map looser_class (unit_classes given n (map erased_source units)) ≡ map looser_class (unit_classes given n units)
+  units_alike : (n : ℕ) (units : List SourceUnit) → map loose_class (unit_classes given n (map erased_source units)) ≡ map loose_class (unit_classes given n units)
   units_alike n [] = refl
   units_alike n (x ∷ xs) =
       let before : List Class = declared_classes given (erased_source x) n (map of_unit.decl x.declarations) in
       let after : List Class = declared_classes given x n x.declarations in
       behind before after (unit_classes given (n + length before) (map erased_source xs)) (unit_classes given (n + length after) xs)
       (declarations_alike x n x.declarations)
-      (ap (λ (m : ℕ). map looser_class (unit_classes given (n + m) (map erased_source xs))) (as_long before after (declarations_alike x n x.declarations))
+      (ap (λ (m : ℕ). map loose_class (unit_classes given (n + m) (map erased_source xs))) (as_long before after (declarations_alike x n x.declarations))
       ∙ units_alike (n + length after) xs)
 
-called_loose : (library : ℕ) (name : Text) (n : ℕ) (xs : List Class) → class_called library name n (map looser_class xs) ≡ class_called library name n xs
+called_loose : (library : ℕ) (name : Text) (n : ℕ) (xs : List Class) → class_called library name n (map loose_class xs) ≡ class_called library name n xs
 called_loose library name n [] = refl
 called_loose library name n (x ∷ xs) = λ i. if nat_eq x.library library && bytes_eq x.name name then n else called_loose library name (n + 1) xs i
 
-called_alike : (library : ℕ) (name : Text) (n : ℕ) (xs ys : List Class) → map looser_class xs ≡ map looser_class ys → class_called library name n xs ≡ class_called library name n ys
+called_alike : (library : ℕ) (name : Text) (n : ℕ) (xs ys : List Class) → map loose_class xs ≡ map loose_class ys → class_called library name n xs ≡ class_called library name n ys
 called_alike library name n xs ys e = sym (called_loose library name n xs) ∙ ap (class_called library name n) e ∙ called_loose library name n ys
 
 core_same : (units : List SourceUnit) → core_library (map erased_source units) ≡ core_library units
 core_same [] = refl
 core_same (x ∷ xs) = λ i. if x.is_core then x.library else core_same xs i
 
-pub classes_alike : (given : Given) (units : List SourceUnit) → looser_classes (classes_of given (map erased_source units)) ≡ looser_classes (classes_of given units)
-classes_alike given units =
+pub classes_same : (given : Given) (units : List SourceUnit) → loose_classes (classes_of given (map erased_source units)) ≡ loose_classes (classes_of given units)
+classes_same given units =
     let made : List Class = unit_classes given 0 (map erased_source units) in
     let others : List Class = unit_classes given 0 units in
     (λ i. record {
-      classes = map looser_class made;
+      classes = map loose_class made;
       object = class_called (core_same units i) (codes "Object") 0 made;
       function = class_called (core_same units i) (codes "Function") 0 made;
     }) ∙ (λ i. record {

@@ -23,9 +23,8 @@ use Rattle.laws_table.specs.Shape.{IsSameShape}
 use Rattle.laws_table.proofs.Rowed.{loose_named}
 use Rattle.laws_table.proofs.Laws.{tables_of_a_shape}
 use Rattle.laws_annotation.specs.Erased.{erased_state, erased_scoping, erased_source}
-use Rattle.laws_annotation.specs.Super.{KeepSuper}
 use Rattle.laws_annotation.specs.Tables.{loose_member, DifferInSignaturesAlone}
-use Rattle.laws_annotation.proofs.Mixable.{classes_same}
+use Rattle.laws_annotation.proofs.Rows.{classes_same}
 use Rattle.laws_annotation.proofs.Given.{given_same, units_same, source_same}
 
 -- what is read of each item through something that is seen of it
@@ -95,14 +94,14 @@ module _ (s : Scoping) (built other k l : Classes) (h : IsSameShape built other)
     function = ap (λ c. c.0) (two.function ∙ sym h.function ∙ sym one.function);
   }
 
-pub tables_differ : (s : Scoping) (state : State) (built other k l : Classes) → AreDistinct s.texts → KeepSuper (source_units state)
+pub tables_differ : (s : Scoping) (state : State) (built other k l : Classes) → AreDistinct s.texts
     → DeclaresRoots (classes_of (class_given s) (source_units state)) → IsTableFrom (class_given s) (source_units state) s.texts built → IsNumbered s built k
     → IsTableFrom (class_given (erased_scoping s)) (source_units (erased_state state)) s.texts other → IsNumbered (erased_scoping s) other l
     → DifferInSignaturesAlone s.texts l k
-tables_differ s state built other k l distinct keep roots from one from_other two =
+tables_differ s state built other k l distinct roots from one from_other two =
     let given : Given = class_given s in
     let units : List SourceUnit = source_units state in
     let moved : IsTableFrom given (map erased_source units) s.texts other =
     subst (λ (us : List SourceUnit). IsTableFrom given us s.texts other) (units_same state)
     (subst (λ (g : Given). IsTableFrom g (source_units (erased_state state)) s.texts other) (given_same s) from_other) in
-    differ s built other k l (tables_of_a_shape given units (map erased_source units) s.texts distinct (classes_same given units keep) built other roots from moved) one two
+    differ s built other k l (tables_of_a_shape given units (map erased_source units) s.texts distinct (classes_same given units) built other roots from moved) one two

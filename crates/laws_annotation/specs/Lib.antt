@@ -1,4 +1,3 @@
 pub mod Erased
 pub mod Tables
-pub mod Super
 pub mod Loading

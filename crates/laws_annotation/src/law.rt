@@ -1,22 +1,20 @@
 // Laws of erased programs: what of the names of a program doesn't depend on its annotations.
-ghost use Rattle.std.specs.Prelude.{◌≡◌, ℕ, List, map, true};
-ghost use Rattle.class_source.specs.Members.{names_super};
+ghost use Rattle.std.specs.Prelude.{◌≡◌, ℕ, List, map};
 ghost use Rattle.class_source.specs.Source.{Given, SourceUnit, classes_of};
 ghost use Rattle.class_within.specs.Built.{IsTableFrom};
 ghost use Rattle.dart_base.specs.Names.{AreDistinct};
 ghost use Rattle.dart_base.specs.declared.place.Place.{Place};
 ghost use Rattle.dart_class.specs.Given.{class_given, source_units};
 ghost use Rattle.dart_erase.specs.UnitErased as erased;
-ghost use Rattle.dart_tree.specs.Unit.{Member, UnitTree};
+ghost use Rattle.dart_tree.specs.Unit.{UnitTree};
 ghost use Rattle.dart_ir.specs.declared.class.Classes.{Classes};
 ghost use Rattle.dart_lower.specs.Given.{given_of};
 ghost use Rattle.dart_scope.specs.Making.{IsProgram};
 ghost use Rattle.dart_scope.specs.declared.program.Program.{Program};
 ghost use Rattle.laws_annotation.specs.Erased.{erased_scoping, erased_source, erased_state};
 ghost use Rattle.laws_annotation.specs.Loading.{GivenBy, GivenErasedBy};
-ghost use Rattle.laws_table.specs.Loose.{loose_classes, looser_classes};
+ghost use Rattle.laws_table.specs.Loose.{loose_classes};
 ghost use Rattle.laws_table.specs.Roots.{DeclaresRoots};
-ghost use Rattle.laws_annotation.specs.Super.{KeepSuper};
 ghost use Rattle.laws_annotation.specs.Tables.{DifferInSignaturesAlone};
 ghost use Rattle.laws_scope.specs.Under.{IsScopingUnder};
 ghost use Rattle.laws_translation.specs.Bare.{erased_given, lines};
@@ -94,19 +92,11 @@ pub fn surroundings_are_kept()
     ensures members { (s : Scoping) → members_around (erased_scoping s) ≡ members_around s }
 {}
 
-/// The classes that erased units declare are those of the units, row by row, but for the types in the signatures of members,
-/// and for whether a class names `super`. Where erasure leaves `super` in each member that has it, they are those but for
-/// signatures (ECMA-408, 10 Classes, 12 Mixins).
+/// The classes that erased units declare are those of the units, row by row, but for the types in the signatures of members: whether a
+/// class may be mixed in is the same, too (ECMA-408, 10 Classes, 12 Mixins).
 pub fn class_rows_are_kept()
-    ensures rows { (given : Given) (units : List SourceUnit)
-        → looser_classes (classes_of given (map erased_source units)) ≡ looser_classes (classes_of given units) }
-    ensures mixable { (given : Given) (units : List SourceUnit) → KeepSuper units
+    ensures { (given : Given) (units : List SourceUnit)
         → loose_classes (classes_of given (map erased_source units)) ≡ loose_classes (classes_of given units) }
-{}
-
-/// An erased member names `super` only where the member does: so erasure makes no class unfit as a mixin.
-pub fn super_is_not_added()
-    ensures { (x : Member) → names_super (erased.member x) ≡ true → names_super x ≡ true }
 {}
 
 /// The classes of an erased program are read with the same names and numbers, from the units of the program, erased
@@ -124,10 +114,9 @@ pub fn translated_programs_differ_in_annotations()
 {}
 
 /// Under one table of names, the table of the classes of the erased program differs from that of the program in the types of
-/// signatures alone, its implicit accessors included, where erasure leaves `super` in each member that has it (ECMA-408, 10
-/// Classes).
+/// signatures alone, its implicit accessors included (ECMA-408, 10 Classes).
 pub fn tables_differ_in_signatures()
-    ensures { (s : Scoping) (state : State) (built other k l : Classes) → AreDistinct s.texts → KeepSuper (source_units state)
+    ensures { (s : Scoping) (state : State) (built other k l : Classes) → AreDistinct s.texts
         → DeclaresRoots (classes_of (class_given s) (source_units state))
         → IsTableFrom (class_given s) (source_units state) s.texts built → IsNumbered s built k
         → IsTableFrom (class_given (erased_scoping s)) (source_units (erased_state state)) s.texts other

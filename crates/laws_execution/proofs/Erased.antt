@@ -28,7 +28,6 @@ use Rattle.laws_annotation.proofs.Given.{lines_same}
 use Rattle.laws_annotation.proofs.Scopes.{own_scoping}
 use Rattle.laws_annotation.proofs.Tabled.{tables_differ}
 use Rattle.laws_annotation.specs.Erased.{erased_scoping, erased_state}
-use Rattle.laws_annotation.specs.Super.{KeepSuper}
 use Rattle.laws_annotation.specs.Tables.{DifferInSignaturesAlone}
 use Rattle.laws_scope.proofs.Absorbing.{all_begin}
 use Rattle.laws_table.proofs.More.{table_longer}
@@ -80,7 +79,7 @@ classes_below count x k is within =
     subst (AreBelow count) is (record { classes = front Below classes members two; members = rear Below classes members two })
 
 module _ (state : State) (s : Scoping) (more : List Text) (begins : s.texts ≡ s.kept ++ more) (distinct : AreDistinct s.texts)
-    (own_distinct : AreDistinct s.kept) (keep : KeepSuper (source_units state)) (b : Budget) (made other : Written) (is : HasRun state s b made)
+    (own_distinct : AreDistinct s.kept) (b : Budget) (made other : Written) (is : HasRun state s b made)
     (so : HasRun (erased_state state) (own (erased_scoping s) more begins) b other) where
   abbrev without : Scoping
   without = erased_scoping s
@@ -110,7 +109,7 @@ module _ (state : State) (s : Scoping) (more : List Text) (begins : s.texts ≡ 
       (as_table (class_given without) (source_units (erased_state state)) s.kept own_distinct so.table.built so.table.is_built))
 
   differ : DifferInSignaturesAlone s.texts so.classes is.classes
-  differ = tables_differ s state is.table.built so.table.built is.classes so.classes distinct keep
+  differ = tables_differ s state is.table.built so.table.built is.classes so.classes distinct
       (built_roots (class_given s) (source_units state) s.texts distinct is.table.built is.table.is_built)
       (as_table (class_given s) (source_units state) s.texts distinct is.table.built is.table.is_built) is.table.numbered
       from_erased (numbered_same without more begins so.table.built so.classes below so.table.numbered)
@@ -144,13 +143,13 @@ module _ (state : State) (s : Scoping) (more : List Text) (begins : s.texts ≡ 
   same_run : other ≡ made
   same_run = sym (alike_runs_are_one (with_names s.kept is.program) (with_names s.kept so.program) b made other alike_stripped is.run so.run)
 
-pub erased_runs : (state : State) (b : Budget) (made other : Written) → KeepSuper (source_units state) → Executes state Production b (Ran made)
+pub erased_runs : (state : State) (b : Budget) (made other : Written) → Executes state Production b (Ran made)
     → Executes (erased_state state) Production b (Ran other) → other ≡ made
-erased_runs state b made other keep run also =
+erased_runs state b made other run also =
     let (s, is, distinct, has) = has_run state b made run in
     let (t, own_is, own_distinct, own_has) = has_run (erased_state state) b other also in
     let names = all_begin (homes_of state) state.units in
     let begins : s.texts ≡ s.kept ++ names.0 = is.texts ∙ names.1 ∙ ap (λ (kept : List Text). kept ++ names.0) (sym is.kept) in
     let same : t ≡ own (erased_scoping s) names.0 begins = own_scoping state s t is own_is in
-    same_run state s names.0 begins distinct (subst (λ (r : Scoping). AreDistinct r.texts) same own_distinct) keep b made other has
+    same_run state s names.0 begins distinct (subst (λ (r : Scoping). AreDistinct r.texts) same own_distinct) b made other has
     (subst (λ (r : Scoping). HasRun (erased_state state) r b other) same own_has)
