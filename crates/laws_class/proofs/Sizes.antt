@@ -15,7 +15,6 @@ use Rattle.class_fault.specs.declared.program.HeaderType.{HeaderType}
 use Rattle.class_fault.specs.declared.program.Program.{Program}
 use Rattle.class_size.specs.Size.{IsAbove, direct, further, IsTooLarge, itself, above, IsFirst, no_more, here, later}
 use Rattle.class_size.specs.Built.{IsSizedTo}
-use Rattle.laws_class.specs.Same.{IsSameTable}
 use Rattle.laws_class.proofs.Tables.{one_numbers, table_one}
 
 -- where lists are shown alike, what is read of one is shown as what is read of the other
@@ -46,14 +45,14 @@ supertypes_same i j q =
     ∙ ap (λ (x : core.Class ℕ). before x.superclass x.interfaces) q
     ∙ sym (with_superclass_seen j.superclass j.interfaces.items)
 
-module _ (k l : Classes) (same : IsSameTable k l) where
+module _ (k l : Classes) (same : map v.class k.classes.items ≡ map v.class l.classes.items) where
   above_same : (t u : Ty) → IsAbove k t u → IsAbove l t u
   above_same _ _ (direct c n ts i u f g) =
-      let x = other v.class k.classes.items l.classes.items same.classes c i f in
+      let x = other v.class k.classes.items l.classes.items same c i f in
       let y = other ty (direct_supertypes i) (direct_supertypes x.0) (supertypes_same i x.0 x.2) n u g in
       transport (λ z. IsAbove l (class c ts) (instance ts z)) (sym y.2) (direct c n ts x.0 y.0 x.1 y.1)
   above_same _ _ (further c n ts i u w f g r) =
-      let x = other v.class k.classes.items l.classes.items same.classes c i f in
+      let x = other v.class k.classes.items l.classes.items same c i f in
       let y = other ty (direct_supertypes i) (direct_supertypes x.0) (supertypes_same i x.0 x.2) n u g in
       further c n ts x.0 y.0 w x.1 y.1 (transport (λ z. IsAbove l (instance ts z) w) y.2 (above_same _ w r))
 
@@ -62,18 +61,15 @@ module _ (k l : Classes) (same : IsSameTable k l) where
   too_large_same t (above h) = above (h.0, above_same t h.0 h.1, h.2)
 
 module _ (k l : Classes) (ns : List ℕ) (to : (t : Ty) → IsTooLarge k t → IsTooLarge l t) (back : (t : Ty) → IsTooLarge l t → IsTooLarge k t) where
-  first_one : (ts : List HeaderType) (f g : Option Place) → IsFirst k ns ts f → IsFirst l ns ts g → f ≡ g
+  pub first_one : (ts : List HeaderType) (f g : Option Place) → IsFirst k ns ts f → IsFirst l ns ts g → f ≡ g
   first_one _ _ _ no_more no_more = refl
   first_one _ _ _ (here t ts h) (here _ _ m) = refl
   first_one _ _ _ (here t ts h) (later _ _ g m w) = absurd (m (to _ h))
   first_one _ _ _ (later t ts f h v) (here _ _ m) = absurd (h (back _ m))
   first_one _ _ _ (later t ts f h v) (later _ _ g m w) = first_one ts f g v w
 
-reversed : (k l : Classes) → IsSameTable k l → IsSameTable l k
-reversed k l s = record { classes = sym s.classes; members = sym s.members; function = sym s.function }
-
 pub place_one : (p : Program) (k l : Classes) (f g : Option Place) (a : IsSizedTo p k f) (b : IsSizedTo p l g) → AreListed a.table.headers → f ≡ g
 place_one p k l f g a b listed =
-    let same = table_one p k l a.table b.table listed in
-    first_one k l a.table.numbers (too_large_same k l same) (too_large_same l k (reversed k l same)) _ f g a.first
+    let same = (table_one p k l a.table b.table listed).classes in
+    first_one k l a.table.numbers (too_large_same k l same) (too_large_same l k (sym same)) _ f g a.first
     (transport (λ z. IsFirst l z _ g) (sym (one_numbers p k l a.table b.table listed)) b.first)

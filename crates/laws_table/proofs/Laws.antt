@@ -23,6 +23,7 @@ use Rattle.laws_class.proofs.Sizes.{place_one}
 use Rattle.laws_table.specs.Roots.{DeclaresRoots}
 use Rattle.laws_table.specs.Loose.{loose_classes}
 use Rattle.laws_table.specs.Shape.{IsSameShape}
+use Rattle.laws_table.proofs.Large.{found_one}
 use Rattle.laws_table.proofs.Rowed.{same_shape}
 use Rattle.laws_table.proofs.Shapes.{shape_one}
 use Rattle.laws_table.proofs.Sizes.{built_like, refused_like, refused_shape, sized_like}
@@ -85,3 +86,15 @@ module _ (given : Given) (units others : List SourceUnit) (texts : List Text) (d
   pub no_fault_of_a_shape : (k : Classes) (f : Fault) → IsTableFrom given units texts k → IsFaultFrom given others texts f → ⊥
   no_fault_of_a_shape k f (p, a, v, x) (q, b, w, y) =
       not_both p k f x.table (refused_shape p q (same_shape texts distinct given units others same p q a b v w) f y)
+
+  pub large_of_a_shape : (place other : Place) → DeclaresRoots (classes_of given units) → IsLargeFrom given units texts place → IsLargeFrom given others texts other
+      → place ≡ other
+  large_of_a_shape place other roots (p, a, v, (k, x)) (q, b, w, (l, y)) =
+      same_Some place other
+      (found_one p q (same_shape texts distinct given units others same p q a b v w) k l (Some place) (Some other) x y (names_declared given units texts p k x.table a roots))
+
+  pub no_large_of_a_shape : (k : Classes) (place : Place) → DeclaresRoots (classes_of given units) → IsTableFrom given units texts k → IsLargeFrom given others texts place → ⊥
+  no_large_of_a_shape k place roots (p, a, v, x) (q, b, w, (l, y)) =
+      let e : None ≡ Some place =
+      found_one p q (same_shape texts distinct given units others same p q a b v w) k l None (Some place) x y (names_declared given units texts p k x.table a roots) in
+      absurd (cc)

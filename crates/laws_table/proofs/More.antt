@@ -3,18 +3,20 @@ use Rattle.std.proofs.Common.{◌≡◌, ◌∙◌, ℕ, ◌<◌, arith, List, [
 use Rattle.std.specs.List.{flat_map}
 use Rattle.std.proofs.lemmas.List.{length-append}
 use Rattle.std.proofs.lemmas.List.Elements.{All-weaker}
+use Rattle.dart_base.specs.declared.place.Place.{Place}
 use Rattle.dart_ir.specs.Ty.{ty, function_ty}
 use Rattle.dart_ir.specs.declared.types.TypeRef.{TypeRef}
 use Rattle.dart_ir.specs.declared.class.Classes.{Classes}
 use Rattle.core_names.specs.Names.{ty_option_names}
 use Rattle.core_program.specs.ProgramView.{ty_option, text_at}
+use Rattle.class_fault.specs.declared.fault.Fault.{Fault}
 use Rattle.class_fault.specs.declared.program.HeaderType.{HeaderType}
 use Rattle.class_fault.specs.declared.program.Member.{Member}
 use Rattle.class_fault.specs.declared.program.Declaration.{Declaration}
 use Rattle.class_fault.specs.declared.program.Program.{Program}
 use Rattle.class_source.specs.Source.{SourceUnit, Given}
 use Rattle.class_source.specs.View as source
-use Rattle.class_within.specs.Built.{IsTableFrom}
+use Rattle.class_within.specs.Built.{IsTableFrom, IsFaultFrom, IsLargeFrom}
 use Rattle.class_within.specs.Names.{superclass_names, header_type_names, member_names, class_names, program_names}
 use Rattle.class_within.specs.View as view
 use Rattle.class_within.specs.Within.{AreWithin}
@@ -96,3 +98,9 @@ module _ (texts more : List Text) where
 
   pub table_longer : (given : Given) (units : List SourceUnit) (k : Classes) → IsTableFrom given units texts k → IsTableFrom given units longer k
   table_longer given units k (q, a, within, sized) = (q, source_longer given units q a within, within_longer q within, sized)
+
+  pub fault_longer : (given : Given) (units : List SourceUnit) (f : Fault) → IsFaultFrom given units texts f → IsFaultFrom given units longer f
+  fault_longer given units f (q, a, within, refused) = (q, source_longer given units q a within, within_longer q within, refused)
+
+  pub large_longer : (given : Given) (units : List SourceUnit) (place : Place) → IsLargeFrom given units texts place → IsLargeFrom given units longer place
+  large_longer given units place (q, a, within, large) = (q, source_longer given units q a within, within_longer q within, large)

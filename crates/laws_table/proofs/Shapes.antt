@@ -51,7 +51,7 @@ looked_more : (ms : List MemberInfo) (xs : List ClassInfo) (c : ℕ) (x : ClassI
     → map (looked ms) (take (c + 1) xs) ≡ map (looked ms) (take c xs) ++ looked ms x ∷ []
 looked_more ms xs c x g = ap (map (looked ms)) (taken xs c x g) ∙ map_push (looked ms) (take c xs) x
 
-count_more : (xs : List ClassInfo) (c : ℕ) (x : ClassInfo) → slice_get xs c ≡ Some x
+pub count_more : (xs : List ClassInfo) (c : ℕ) (x : ClassInfo) → slice_get xs c ≡ Some x
     → member_count (take (c + 1) xs) ≡ member_count (take c xs) + length x.members.items
 count_more xs c x g = ap member_count (taken xs c x g) ∙ count_push (take c xs) x
 
@@ -262,7 +262,7 @@ module _ (p q : Program) (same : shape.program p ≡ shape.program q) (k l : Cla
   one_rows : a.rows ≡ b.rows
   one_rows = rows_one a.headers listed a.rows b.rows a.numbers b.numbers a.are_rows other_rows
 
-  one_numbers : a.numbers ≡ b.numbers
+  pub one_numbers : a.numbers ≡ b.numbers
   one_numbers = numbers_one a.headers listed a.rows b.rows a.numbers b.numbers a.are_rows other_rows
 
   other_table : IsTable p a.numbers a.rows (length a.rows) l.classes.items

@@ -20,14 +20,14 @@ use Rattle.laws_table.proofs.Graphs.{graph_like}
 use Rattle.laws_table.proofs.Faults.{first_from_like}
 use Rattle.laws_table.proofs.Rows.{program_like, table_like, members_like}
 
-abbrev option_seen : Option s.HeaderType → List s.HeaderType
+abbrev pub option_seen : Option s.HeaderType → List s.HeaderType
 option_seen None = []
 option_seen (Some t) = t ∷ []
 
-abbrev user_seen : s.Class → List s.HeaderType
+abbrev pub user_seen : s.Class → List s.HeaderType
 user_seen c = cond c.standing.is_user (option_seen c.superclass ++ c.mixins ++ c.interfaces) []
 
-abbrev users_seen : List s.Class → List s.HeaderType
+abbrev pub users_seen : List s.Class → List s.HeaderType
 users_seen [] = []
 users_seen (c ∷ cs) = user_seen c ++ users_seen cs
 
@@ -48,7 +48,7 @@ cond_read false ts = refl
 user_read : (i : Declaration) → map view.header_type (user_types i) ≡ user_seen (view.class i)
 user_read i = cond_read i.standing.is_user (header_list i) ∙ ap (λ z. cond i.standing.is_user z []) (header_list_read i)
 
-users_read : (is : List Declaration) → map view.header_type (all_user_types is) ≡ users_seen (map view.class is)
+pub users_read : (is : List Declaration) → map view.header_type (all_user_types is) ≡ users_seen (map view.class is)
 users_read [] = refl
 users_read (i ∷ is) =
     let a = user_read i in
@@ -59,7 +59,7 @@ module _ (k : Classes) (ns : List ℕ) where
   large_like : (t u : HeaderType) → view.header_type t ≡ view.header_type u → IsTooLarge k (renumbered ns (ty t.of)) → IsTooLarge k (renumbered ns (ty u.of))
   large_like t u e h = transport (λ z. IsTooLarge k (renumbered ns z)) (type_like t u e) h
 
-  first_like : (ts us : List HeaderType) (found : Option Place) → map view.header_type ts ≡ map view.header_type us → IsFirst k ns ts found → IsFirst k ns us found
+  pub first_like : (ts us : List HeaderType) (found : Option Place) → map view.header_type ts ≡ map view.header_type us → IsFirst k ns ts found → IsFirst k ns us found
   first_like _ [] _ e no_more = no_more
   first_like _ (u ∷ us) _ e no_more = absurd (cc)
   first_like _ [] _ e (here t ts h) = absurd (cc)

@@ -51,3 +51,11 @@ pub fn tables_stay_under_more_names()
     ensures { (given : Given) (units : List SourceUnit) (texts more : List Text) (k : Classes) → IsTableFrom given units texts k
         → IsTableFrom given units (texts ++ more) k }
 {}
+
+/// So it is of the reason against them.
+pub fn reasons_stay_under_more_names()
+    ensures fault { (given : Given) (units : List SourceUnit) (texts more : List Text) (f : Fault) → IsFaultFrom given units texts f
+        → IsFaultFrom given units (texts ++ more) f }
+    ensures large { (given : Given) (units : List SourceUnit) (texts more : List Text) (place : Place) → IsLargeFrom given units texts place
+        → IsLargeFrom given units (texts ++ more) place }
+{}

@@ -1,12 +1,13 @@
 // Laws of programs whose class declarations differ in the types of signatures alone, as those of a program and of the erased one.
 ghost use Rattle.std.specs.Prelude.{◌≡◌, ◌<◌, List, length};
 ghost use Rattle.dart_base.specs.Names.{AreDistinct};
+ghost use Rattle.dart_base.specs.declared.place.Place.{Place};
 ghost use Rattle.dart_ir.specs.declared.class.Classes.{Classes};
 ghost use Rattle.class_fault.specs.declared.fault.Fault.{Fault};
 ghost use Rattle.class_fault.specs.declared.program.Program.{Program};
 ghost use Rattle.class_table.specs.Built.{IsBuilt, IsRefused};
 ghost use Rattle.class_source.specs.Source.{SourceUnit, Given, classes_of};
-ghost use Rattle.class_within.specs.Built.{IsTableFrom, IsFaultFrom};
+ghost use Rattle.class_within.specs.Built.{IsTableFrom, IsFaultFrom, IsLargeFrom};
 ghost use Rattle.laws_table.specs.Loose.{loose_classes};
 ghost use Rattle.laws_table.specs.Roots.{DeclaresRoots};
 ghost use Rattle.laws_table.specs.Shape as shape;
@@ -39,4 +40,14 @@ pub fn units_have_faults_of_a_shape()
     ensures no_table { (given : Given) (units others : List SourceUnit) (texts : List Text) (k : Classes) (f : Fault) → AreDistinct texts
         → loose_classes (classes_of given others) ≡ loose_classes (classes_of given units)
         → IsTableFrom given units texts k → IsFaultFrom given others texts f → ⊥ }
+{}
+
+/// And of both one header type is the first that is too large, and only where there is no table.
+pub fn units_have_large_types_of_a_shape()
+    ensures one { (given : Given) (units others : List SourceUnit) (texts : List Text) (place other : Place) → AreDistinct texts
+        → loose_classes (classes_of given others) ≡ loose_classes (classes_of given units) → DeclaresRoots (classes_of given units)
+        → IsLargeFrom given units texts place → IsLargeFrom given others texts other → place ≡ other }
+    ensures no_table { (given : Given) (units others : List SourceUnit) (texts : List Text) (k : Classes) (place : Place) → AreDistinct texts
+        → loose_classes (classes_of given others) ≡ loose_classes (classes_of given units) → DeclaresRoots (classes_of given units)
+        → IsTableFrom given units texts k → IsLargeFrom given others texts place → ⊥ }
 {}

@@ -1,0 +1,8 @@
+use Rattle.laws_table.proofs.Laws.{large_of_a_shape, no_large_of_a_shape}
+use Rattle.laws_table.proofs.shape.units_have_large_types_of_a_shape.Goals as goal
+
+pub returns-clause-one : goal.returns-clause-one
+returns-clause-one c = λ given units others texts place other distinct same. large_of_a_shape given units others texts distinct same place other
+
+pub returns-clause-no_table : goal.returns-clause-no_table
+returns-clause-no_table c = λ given units others texts k place distinct same. no_large_of_a_shape given units others texts distinct same k place
