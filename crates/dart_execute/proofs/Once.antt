@@ -66,10 +66,10 @@ module _ (given : Given) (units : List SourceUnit) (texts : List Text) (distinct
   pub as_table : (k : Classes) → IsBuiltFrom given units texts k → IsTableFrom given units texts k
   as_table k (q, read, sized) = (q, read.source, read.within, sized)
 
-  as_fault : (f : Fault) → IsRefusedIn given units texts f → IsFaultFrom given units texts f
+  pub as_fault : (f : Fault) → IsRefusedIn given units texts f → IsFaultFrom given units texts f
   as_fault f (q, read, refused) = (q, read.source, read.within, refused)
 
-  as_large : (place : Place) → IsOverlargeIn given units texts place → IsLargeFrom given units texts place
+  pub as_large : (place : Place) → IsOverlargeIn given units texts place → IsLargeFrom given units texts place
   as_large place (q, read, large) = (q, read.source, read.within, large)
 
   pub built_roots : (k : Classes) → IsBuiltFrom given units texts k → DeclaresRoots (classes_of given units)

@@ -1,6 +1,8 @@
 -- The table of the classes of an erased program differs from that of the program in the types of signatures alone.
 use Rattle.std.proofs.Common.{◌≡◌, refl, sym, ap, ◌∙◌, subst, ℕ, Bool, true, false, List, [], ◌∷◌, map, Vec, Global}
+use Rattle.class_fault.specs.declared.fault.Fault.{Fault}
 use Rattle.dart_base.specs.Names.{AreDistinct}
+use Rattle.dart_base.specs.declared.place.Place.{Place}
 use Rattle.dart_ir.specs.declared.class.Classes.{Classes}
 use Rattle.dart_ir.specs.declared.class.ClassInfo.{ClassInfo}
 use Rattle.dart_ir.specs.declared.class.MemberInfo.{MemberInfo}
@@ -13,7 +15,7 @@ use Rattle.scope_load.specs.State.{State}
 use Rattle.scope_program.specs.Program.{Scoping}
 use Rattle.translation.specs.Surroundings.{Text}
 use Rattle.class_source.specs.Source.{SourceUnit, Given, classes_of}
-use Rattle.class_within.specs.Built.{IsTableFrom}
+use Rattle.class_within.specs.Built.{IsTableFrom, IsFaultFrom, IsLargeFrom}
 use Rattle.dart_class.specs.Given.{class_given, source_units}
 use Rattle.lower_table.specs.Rows.{rows_of, starts_of}
 use Rattle.lower_table.specs.Table.{source_of}
@@ -21,7 +23,7 @@ use Rattle.table_accessor.specs.Numbered.{is_induced, start_at, next_in, with_nu
 use Rattle.laws_table.specs.Roots.{DeclaresRoots}
 use Rattle.laws_table.specs.Shape.{IsSameShape}
 use Rattle.laws_table.proofs.Rowed.{loose_named}
-use Rattle.laws_table.proofs.Laws.{tables_of_a_shape}
+use Rattle.laws_table.proofs.Laws.{tables_of_a_shape, no_fault_of_a_shape, no_large_of_a_shape}
 use Rattle.laws_annotation.specs.Erased.{erased_state, erased_scoping, erased_source}
 use Rattle.laws_annotation.specs.Tables.{loose_member, DifferInSignaturesAlone}
 use Rattle.laws_annotation.proofs.Rows.{classes_same}
@@ -105,3 +107,26 @@ tables_differ s state built other k l distinct roots from one from_other two =
     subst (λ (us : List SourceUnit). IsTableFrom given us s.texts other) (units_same state)
     (subst (λ (g : Given). IsTableFrom g (source_units (erased_state state)) s.texts other) (given_same s) from_other) in
     differ s built other k l (tables_of_a_shape given units (map erased_source units) s.texts distinct (classes_same given units) built other roots from moved) one two
+
+-- ---- reasons against headers
+
+module _ (s : Scoping) (state : State) (built : Classes) (distinct : AreDistinct s.texts) where
+  abbrev given : Given
+  given = class_given s
+
+  abbrev units : List SourceUnit
+  units = source_units state
+
+  pub no_fault : (f : Fault) → IsTableFrom given units s.texts built
+      → IsFaultFrom (class_given (erased_scoping s)) (source_units (erased_state state)) s.texts f → ⊥
+  no_fault f from against =
+      no_fault_of_a_shape given units (map erased_source units) s.texts distinct (classes_same given units) built f from
+      (subst (λ (us : List SourceUnit). IsFaultFrom given us s.texts f) (units_same state)
+      (subst (λ (g : Given). IsFaultFrom g (source_units (erased_state state)) s.texts f) (given_same s) against))
+
+  pub no_large_type : (place : Place) → DeclaresRoots (classes_of given units) → IsTableFrom given units s.texts built
+      → IsLargeFrom (class_given (erased_scoping s)) (source_units (erased_state state)) s.texts place → ⊥
+  no_large_type place roots from against =
+      no_large_of_a_shape given units (map erased_source units) s.texts distinct (classes_same given units) built place roots from
+      (subst (λ (us : List SourceUnit). IsLargeFrom given us s.texts place) (units_same state)
+      (subst (λ (g : Given). IsLargeFrom g (source_units (erased_state state)) s.texts place) (given_same s) against))

@@ -1,7 +1,8 @@
 // Laws of erased programs: what of the names of a program doesn't depend on its annotations.
 ghost use Rattle.std.specs.Prelude.{◌≡◌, ℕ, List, map};
 ghost use Rattle.class_source.specs.Source.{Given, SourceUnit, classes_of};
-ghost use Rattle.class_within.specs.Built.{IsTableFrom};
+ghost use Rattle.class_fault.specs.declared.fault.Fault.{Fault};
+ghost use Rattle.class_within.specs.Built.{IsFaultFrom, IsLargeFrom, IsTableFrom};
 ghost use Rattle.dart_base.specs.Names.{AreDistinct};
 ghost use Rattle.dart_base.specs.declared.place.Place.{Place};
 ghost use Rattle.dart_class.specs.Given.{class_given, source_units};
@@ -121,4 +122,16 @@ pub fn tables_differ_in_signatures()
         → IsTableFrom (class_given s) (source_units state) s.texts built → IsNumbered s built k
         → IsTableFrom (class_given (erased_scoping s)) (source_units (erased_state state)) s.texts other
         → IsNumbered (erased_scoping s) other l → DifferInSignaturesAlone s.texts l k }
+{}
+
+/// Where the classes of a program have a table, the erased program has no reason against a header: none is refused, and none is too
+/// large (ECMA-408, 10 Classes, 12 Mixins).
+pub fn headers_get_no_reason()
+    ensures fault { (s : Scoping) (state : State) (built : Classes) (f : Fault) → AreDistinct s.texts
+        → IsTableFrom (class_given s) (source_units state) s.texts built
+        → IsFaultFrom (class_given (erased_scoping s)) (source_units (erased_state state)) s.texts f → ⊥ }
+    ensures large { (s : Scoping) (state : State) (built : Classes) (place : Place) → AreDistinct s.texts
+        → DeclaresRoots (classes_of (class_given s) (source_units state))
+        → IsTableFrom (class_given s) (source_units state) s.texts built
+        → IsLargeFrom (class_given (erased_scoping s)) (source_units (erased_state state)) s.texts place → ⊥ }
 {}

@@ -1,7 +1,13 @@
 -- What is translated of a program over a table of names is what is translated over a table that begins with it, where the classes and members
 -- of its table have names of the first.
-use Rattle.std.proofs.Common.{◌≡◌, ◌∙◌, sym, ap, ℕ, ◌<◌, List, ◌++◌, map, length, Vec, Global}
+use Rattle.std.proofs.Common.{◌≡◌, ◌∙◌, refl, sym, ap, subst, ℕ, ◌<◌, Bool, true, false, List, [], ◌∷◌, ◌++◌, map, length, Vec, Global}
 use Rattle.std.specs.List.{flat_map, zip, All}
+use Rattle.std.proofs.lemmas.List.Elements.{All-from_recursion, recursion_from_All}
+use Rattle.class_fault.specs.declared.program.Program.{Program}
+use Rattle.class_table.specs.Built.{IsBuilt}
+use Rattle.class_within.specs.Names.{program_names}
+use Rattle.class_within.specs.View as view
+use Rattle.class_within.specs.Within.{AreWithin}
 use Rattle.dart_ir.specs.declared.class.Classes.{Classes}
 use Rattle.dart_ir.specs.declared.class.ClassInfo.{ClassInfo}
 use Rattle.dart_ir.specs.declared.class.MemberInfo.{MemberInfo}
@@ -12,21 +18,54 @@ use Rattle.core_program.specs.ProgramView as pv
 use Rattle.dart_lower.specs.Given.{file_name, given_of, source_unit}
 use Rattle.laws_table.proofs.Agreed.{agree_within, class_agreed, member_agreed}
 use Rattle.laws_table.proofs.More.{all_kept}
+use Rattle.laws_table.proofs.TableNames.{classes_held, members_held}
 use Rattle.lower_annotation.specs.Annotated.{annotated}
 use Rattle.lower_leaf.specs.Around.{Around}
 use Rattle.lower_program.specs.Views.{library_outer}
 use Rattle.lower_table.specs.Rows.{Rows, index_of, rows_of, starts_of}
 use Rattle.lower_table.specs.Table.{around_by, meanings_of, source_of}
+use Rattle.scope_declared.specs.declared.declaration.Declared.{Declared}
 use Rattle.scope_load.specs.State.{State}
 use Rattle.scope_program.specs.Classes.{position_of}
 use Rattle.scope_program.specs.Program.{Scoping}
-use Rattle.table_accessor.specs.Numbered.{IsNumbered, all_numbered}
+use Rattle.table_accessor.specs.Numbered.{IsNumbered, all_numbered, is_induced, next_in, number_after, numbered_from, start_at, with_number}
 use Rattle.translation.specs.Surroundings.{Text}
 
 -- the names of the classes and members of a table are below a count
 pub record AreBelow (count : ℕ) (k : Classes) : Type 0 where
   pub classes : All (λ n. n < count) (flat_map class_names (map pv.class k.classes.items))
   pub members : All (λ n. n < count) (flat_map member_names (map pv.member k.members.items))
+
+-- The table of a program whose declarations have names below a count has such names.
+pub table_below : (count : ℕ) (q : Program) (k : Classes) → IsBuilt q k → AreWithin count q → AreBelow count k
+table_below count q k b within =
+    let Below : ℕ → Type 0 = λ n. n < count in
+    let held = recursion_from_All Below (program_names (view.program q)) within in
+    record {
+      classes = All-from_recursion Below (flat_map class_names (map pv.class k.classes.items)) (classes_held Below q k b held);
+      members = All-from_recursion Below (flat_map member_names (map pv.member k.members.items)) (members_held Below q k b held);
+    }
+
+-- numbers of their own leave implicit accessors their names
+number_named : (induced : Bool) (n : ℕ) (x : c.Member ℕ) → member_names (with_number induced n x) ≡ member_names x
+number_named true n x = refl
+number_named false n x = refl
+
+numbered_named : (numbered : List Declared) (starts : List ℕ) (row next : ℕ) (xs : List (c.Member ℕ))
+    → flat_map member_names (numbered_from numbered starts row next xs) ≡ flat_map member_names xs
+numbered_named numbered starts row next [] = refl
+numbered_named numbered starts row next (x ∷ xs) =
+    let n : ℕ = next_in starts row next x.owner in
+    λ i. number_named (is_induced numbered x) n x i ++ numbered_named numbered starts x.owner (number_after (is_induced numbered x) n) xs i
+
+pub numbered_below : (count : ℕ) (s : Scoping) (built k : Classes) → IsNumbered s built k → AreBelow count built → AreBelow count k
+numbered_below count s built k is below =
+    let starts : List ℕ = starts_of (source_of s) (rows_of s.texts built) in
+    record {
+      classes = subst (λ (xs : Vec ClassInfo Global). All (λ n. n < count) (flat_map class_names (map pv.class xs.items))) (sym is.classes) below.classes;
+      members = subst (All (λ n. n < count))
+          (sym (ap (flat_map member_names) is.members ∙ numbered_named s.numbered starts 0 (start_at starts 0) (map pv.member built.members.items))) below.members;
+    }
 
 -- a row of a table with names as texts
 abbrev row : List Text → ClassInfo → c.Class Text

@@ -29,25 +29,27 @@ pub record HasRun (state : State) (s : Scoping) (b : Budget) (made : Written) : 
   pub is_core : p.core (given_of s state classes main) ≡ p.accepted of
   pub core : IsCoreOf s.texts classes of program
   pub run : IsRunOf (with_names s.kept program) lets_pass b made
+  pub alone : mentions_isolate state ≡ false
 
--- a core that runs
-pub record RunsAs (kept texts : List Text) (k : Classes) (b : Budget) (made : Written) (answer : p.Answer) : Type 0 where
+-- a core that runs, which may start no isolates
+pub record RunsAs (isolates : Bool) (kept texts : List Text) (k : Classes) (b : Budget) (made : Written) (answer : p.Answer) : Type 0 where
   pub of : c.Program Text
   pub program : CoreProgram
   pub is : answer ≡ p.accepted of
   pub core : IsCoreOf texts k of program
   pub run : IsRunOf (with_names kept program) lets_pass b made
+  pub alone : isolates ≡ false
 
 module _ (kept texts : List Text) (k : Classes) (b : Budget) (made : Written) where
   runs_if : (isolates : Bool) (of : c.Program Text) (out : Execution) → out ≡ Ran made → RunsIf isolates kept texts k of Production b out
-      → RunsAs kept texts k b made (p.accepted of)
+      → RunsAs isolates kept texts k b made (p.accepted of)
   runs_if true of out is e = absurd cc
   runs_if false of out is (x, also, core, run, e) =
       let same : also ≡ made = cc in
-      record { of = of; program = x; is = refl; core = core; run = subst (IsRunOf (with_names kept x) lets_pass b) same run }
+      record { of = of; program = x; is = refl; core = core; run = subst (IsRunOf (with_names kept x) lets_pass b) same run; alone = refl }
 
   follows : (state : State) (answer : p.Answer) (out : Execution) → out ≡ Ran made → Follows state kept texts k Production b answer out
-      → RunsAs kept texts k b made answer
+      → RunsAs (mentions_isolate state) kept texts k b made answer
   follows state (p.accepted of) out is h = runs_if (mentions_isolate state) of out is h
   follows state (p.rejected why) out is h = absurd cc
   follows state p.not_built out is h = absurd cc
@@ -66,6 +68,7 @@ translated state s b made out is h =
       is_core = r.is;
       core = r.core;
       run = r.run;
+      alone = r.alone;
     }
 
 executes_in : (state : State) (s : Scoping) (b : Budget) (made : Written) (out : Execution) → out ≡ Ran made → ExecutesIn state s Production b out
