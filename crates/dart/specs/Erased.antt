@@ -1,11 +1,12 @@
 -- Files in which a program stands without its annotations, and what becomes of it.
-use Rattle.std.specs.Prelude.{◌≡◌, ℕ, List, false, IfSome}
+use Rattle.std.specs.Prelude.{◌≡◌, ℕ, List, false, IsSomeAnd}
 use Rattle.dart_edge.specs.Files.{Files, file_of}
 use Rattle.dart_tool.specs.declared.outcome.Outcome.{Outcome}
 use Rattle.dart_tool.specs.declared.status.Status.TheVariants.{Refused}
 use Rattle.dart_tool.specs.Language.{IsWhole}
 use Rattle.dart_tool.specs.Laws.{AskRun, within}
-use Rattle.dart_tool.specs.Outcome.{IsOutcome}
+use Rattle.dart_tool.specs.declared.status.Refusal.TheVariants.{NotBuilt}
+use Rattle.dart_tool.specs.Outcome.{IsOutcome, refused}
 use Rattle.dart_tool.specs.Program.{IsSound}
 use Rattle.dart_words.specs.declared.budget.Budget.{Budget}
 use Rattle.laws_annotation.specs.Erased.{erased_state}
@@ -21,12 +22,17 @@ pub record SpellErased (files others : Files) (root : List ℕ) : Type 0 where
 abbrev pub IsRun : Outcome → Type 0
 IsRun out = out.status ≡ Refused → ⊥
 
--- no model of the subset runs the text under this name, within this budget
-abbrev pub HasWhole : Files → List ℕ → Budget → Type 0
-HasWhole files name budget = IfSome (file_of files name) (λ text. IsWhole text (within budget false))
+-- it is not answered as what isn't built
+abbrev pub HasAnswer : List ℕ → Outcome → Type 0
+HasAnswer name out = out ≡ refused NotBuilt name → ⊥
 
--- In production a program and the program without its annotations, which both run, have one outcome.
+-- there is a text under this name, and no model of the subset runs it within this budget
+abbrev pub HasWhole : Files → List ℕ → Budget → Type 0
+HasWhole files name budget = IsSomeAnd (file_of files name) (λ text. IsWhole text (within budget false))
+
+-- In production a program that runs and the program without its annotations have one outcome, where the second is not answered as what isn't built:
+-- it is refused for no reason.
 abbrev pub ErasedOutcomesAreOne : Type 0
 ErasedOutcomesAreOne = (words : List (List ℕ)) (files others : Files) (budget : Budget) (name : List ℕ) (out other : Outcome)
     → AskRun words (within budget false) name → SpellErased files others name → HasWhole files name budget → HasWhole others name budget
-    → IsOutcome words files out → IsOutcome words others other → IsRun out → IsRun other → other ≡ out
+    → IsOutcome words files out → IsOutcome words others other → IsRun out → HasAnswer name other → other ≡ out

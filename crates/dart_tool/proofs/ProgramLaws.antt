@@ -74,7 +74,7 @@ module _ (files : Files) (root : List ℕ) where
   one_program_refusal a b (inr whole) (inr other) = one_whole a b whole other
 
   -- a program whose units are loaded, with nothing against them as a whole, is refused for no reason of these
-  loaded_unrefused : (state : State) (against : FileRefusal) → IsSound files root state → ProgramRefused files root against → ⊥
+  pub loaded_unrefused : (state : State) (against : FileRefusal) → IsSound files root state → ProgramRefused files root against → ⊥
   loaded_unrefused state against sound (inl (fault, stops, e)) = unstopped state fault against sound.loads stops e
   loaded_unrefused state against sound (inr (other, reason, also, is, e)) =
       let same : state ≡ other = one_end (NameGives (Some files)) root (one_name files) state other sound.loads.0 also.0 in

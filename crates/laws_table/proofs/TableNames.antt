@@ -202,13 +202,14 @@ module _ (P : ℕ → Type 0) where
     row_held : (before : List ClassInfo) (s c : ℕ) (info : ClassInfo) → IsRow p ns before d i s c info → Held (n.class_names (v.class info))
     row_held before s c info row =
         let bounds = flat_map ty_option_names (map v.ty_option info.bounds.items) in
-        let above = ty_option_names (v.ty_option info.superclass) in
-        (transport (λ (z : Name). P z.0) (sym row.name) parts.name,
-        joined (bounds ++ above) (flat_map ty_names (map ty info.interfaces.items))
-        (joined bounds above
-        (transport Held (sym (bounds_seen info.bounds.items ∙ ap (flat_map ty_option_names) row.bounds ∙ bounds_renumbered ns i.bounds.items)) parts.bounds)
-        (superclass_held info.superclass (transport (λ (z : List Ty). Held (flat_map ty_names z)) (sym row.superclass) (row_superclass_held p ns d i s c parts.superclass))))
-        (transport (λ (z : List Ty). Held (flat_map ty_names z)) (sym row.interfaces) (row_interfaces_held s)))
+        let above = ty_option_names (v.ty_option info.superclass) in (
+          transport (λ (z : Name). P z.0) (sym row.name) parts.name,
+          joined (bounds ++ above) (flat_map ty_names (map ty info.interfaces.items))
+              (joined bounds above
+              (transport Held (sym (bounds_seen info.bounds.items ∙ ap (flat_map ty_option_names) row.bounds ∙ bounds_renumbered ns i.bounds.items)) parts.bounds)
+              (superclass_held info.superclass (transport (λ (z : List Ty). Held (flat_map ty_names z)) (sym row.superclass) (row_superclass_held p ns d i s c parts.superclass))))
+              (transport (λ (z : List Ty). Held (flat_map ty_names z)) (sym row.interfaces) (row_interfaces_held s)),
+        )
 
   -- ---- members
 
