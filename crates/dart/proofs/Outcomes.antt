@@ -1,5 +1,5 @@
 -- The outcome of the erased program is that of the program.
-use Rattle.std.specs.Prelude.{IsSomeAnd}
+use Rattle.std.specs.Prelude.{IsSome}
 use Rattle.std.proofs.Common.{◌≡◌, ◌∙◌, sym, ap, subst, refl, ℕ, List, false, Option, None, Some, inl, inr}
 use Rattle.dart_edge.specs.Files.{Files, file_of}
 use Rattle.dart_execute.specs.Execution.{ExecutesAs, allowed}
@@ -7,11 +7,9 @@ use Rattle.dart_execute.specs.declared.execution.Execution.{Execution}
 use Rattle.dart_execute.specs.declared.execution.Execution.TheVariants as execution
 use Rattle.dart_run.specs.declared.written.Written.{Written}
 use Rattle.dart_tool.specs.declared.outcome.Outcome.{Outcome}
-use Rattle.dart_tool.specs.Language.{IsWhole, Writes}
 use Rattle.dart_tool.specs.Laws.{within}
 use Rattle.dart_tool.specs.Outcome.{FileGives, CommandGives, written_outcome}
 use Rattle.dart_tool.specs.Program.{Finishes, IsSound}
-use Rattle.dart_tool.proofs.LanguageLaws.{whole_no_run}
 use Rattle.dart_tool.proofs.ProgramLaws.{loaded_unrefused}
 use Rattle.dart_words.specs.declared.budget.Budget.{Budget}
 use Rattle.dart_words.specs.Words.{Command}
@@ -34,49 +32,38 @@ ran_of : (files : Files) (root : List ℕ) (budget : Budget) (state : State) (ma
 ran_of files root budget state made sound (other, also, is) =
     subst (λ (s : State). ExecutesAs s (within budget false) (execution.Ran made)) (one_state files root state other sound also) is
 
--- what is run of a whole text writes this
-written : (files : Files) (name text : List ℕ) (budget : Budget) (out : Outcome) → IsWhole text (within budget false) → IsRun out
-    → FileGives name files (within budget false) (Some text) out
+-- what is run of a file that is there writes this
+given : (files : Files) (name : List ℕ) (budget : Budget) (content : Option (List ℕ)) (out : Outcome) → IsRun out
+    → FileGives name files (within budget false) content out
     → (made : Written) × Finishes files name (within budget false) made × (out ≡ written_outcome made)
-written files name text budget out whole runs (inl (against, has, is)) = absurd (runs (ap (λ (o : Outcome). o.status) is))
-written files name text budget out whole runs (inr (inl (run, has, is))) = absurd (whole_no_run text (within budget false) whole run has)
-written files name text budget out whole runs (inr (inr (inl (made, (finishes, w), is)))) = (made, finishes, is)
-written files name text budget out whole runs (inr (inr (inr (none, no_run, nothing, is)))) = absurd (runs (ap (λ (o : Outcome). o.status) is))
-
-given : (files : Files) (name : List ℕ) (budget : Budget) (content : Option (List ℕ)) (out : Outcome)
-    → IsSomeAnd content (λ text. IsWhole text (within budget false)) → IsRun out → FileGives name files (within budget false) content out
-    → (made : Written) × Finishes files name (within budget false) made × (out ≡ written_outcome made)
-given files name budget None out whole runs is = absurd whole
-given files name budget (Some text) out whole runs gives = written files name text budget out whole runs gives
+given files name budget None out runs is = absurd (runs (ap (λ (o : Outcome). o.status) is))
+given files name budget (Some text) out runs (inl (against, has, is)) = absurd (runs (ap (λ (o : Outcome). o.status) is))
+given files name budget (Some text) out runs (inr (inl (made, finishes, is))) = (made, finishes, is)
+given files name budget (Some text) out runs (inr (inr (none, nothing, is))) = absurd (runs (ap (λ (o : Outcome). o.status) is))
 
 -- where nothing else becomes of a program than that it writes this, so does what is given for its text
 module _ (files : Files) (name : List ℕ) (budget : Budget) (state : State) (made : Written) (sound : IsSound files name state)
     (alone : (is : Execution) → ExecutesAs state (within budget false) is → is ≡ execution.Ran made) where
-  only : (text : List ℕ) (out : Outcome) → IsWhole text (within budget false) → HasAnswer name out
-      → FileGives name files (within budget false) (Some text) out → out ≡ written_outcome made
-  only text out whole answered (inl (against, (inl reason, w), is)) = absurd (loaded_unrefused files name state against sound reason)
-  only text out whole answered (inl (against, (inr (other, place, cause, also, found, e), w), is)) =
+  only : (content : Option (List ℕ)) (out : Outcome) → IsSome content → HasAnswer name out
+      → FileGives name files (within budget false) content out → out ≡ written_outcome made
+  only None out there answered gives = absurd cc
+  only (Some text) out there answered (inl (against, inl reason, is)) = absurd (loaded_unrefused files name state against sound reason)
+  only (Some text) out there answered (inl (against, inr (other, place, cause, also, found, e), is)) =
       let one : execution.Refused place cause ≡ execution.Ran made =
       alone (execution.Refused place cause)
       (subst (λ (s : State). ExecutesAs s (within budget false) (execution.Refused place cause)) (one_state files name state other sound also) found) in
       absurd cc
-  only text out whole answered (inr (inl (run, has, is))) = absurd (whole_no_run text (within budget false) whole run has)
-  only text out whole answered (inr (inr (inl (again, (finishes, w), is)))) =
+  only (Some text) out there answered (inr (inl (again, finishes, is))) =
       let one : execution.Ran again ≡ execution.Ran made = alone (execution.Ran again) (ran_of files name budget state again sound finishes) in
       let same : again ≡ made = cc in
       is ∙ ap written_outcome same
-  only text out whole answered (inr (inr (inr (none, no_run, nothing, is)))) = absurd (answered is)
-
-  only_given : (content : Option (List ℕ)) (out : Outcome) → IsSomeAnd content (λ text. IsWhole text (within budget false)) → HasAnswer name out
-      → FileGives name files (within budget false) content out → out ≡ written_outcome made
-  only_given None out whole answered gives = absurd whole
-  only_given (Some text) out whole answered gives = only text out whole answered gives
+  only (Some text) out there answered (inr (inr (none, nothing, is))) = absurd (answered is)
 
 pub erased_outcomes_are_one : ErasedOutcomesAreOne
-erased_outcomes_are_one words files others budget name out other asks spell whole also is so runs answered =
-    let (made, finishes, e) = given files name budget (file_of files name) out whole runs
+erased_outcomes_are_one words files others budget name out other asks spell is so runs answered =
+    let (made, finishes, e) = given files name budget (file_of files name) out runs
     (subst (λ (command : Option Command). CommandGives command files out) asks is) in
     let run : ExecutesAs spell.state (within budget false) (execution.Ran made) = ran_of files name budget spell.state made spell.sound finishes in
-    only_given others name budget (erased_state spell.state) made spell.erased (λ found h. erased_runs spell.state (allowed budget) made found run h)
-    (file_of others name) other also answered (subst (λ (command : Option Command). CommandGives command others other) asks so)
+    only others name budget (erased_state spell.state) made spell.erased (λ found h. erased_runs spell.state (allowed budget) made found run h)
+    (file_of others name) other spell.there answered (subst (λ (command : Option Command). CommandGives command others other) asks so)
     ∙ sym e

@@ -1,11 +1,10 @@
 -- Files in which a program stands without its annotations, and what becomes of it.
-use Rattle.std.specs.Prelude.{◌≡◌, ℕ, List, false, IsSomeAnd}
+use Rattle.std.specs.Prelude.{◌≡◌, ℕ, List, false, IsSome}
 use Rattle.dart_edge.specs.Files.{Files, file_of}
 use Rattle.dart_tool.specs.declared.outcome.Outcome.{Outcome}
-use Rattle.dart_tool.specs.declared.status.Status.TheVariants.{Refused}
-use Rattle.dart_tool.specs.Language.{IsWhole}
-use Rattle.dart_tool.specs.Laws.{AskRun, within}
 use Rattle.dart_tool.specs.declared.status.Refusal.TheVariants.{NotBuilt}
+use Rattle.dart_tool.specs.declared.status.Status.TheVariants.{Refused}
+use Rattle.dart_tool.specs.Laws.{AskRun, within}
 use Rattle.dart_tool.specs.Outcome.{IsOutcome, refused}
 use Rattle.dart_tool.specs.Program.{IsSound}
 use Rattle.dart_words.specs.declared.budget.Budget.{Budget}
@@ -16,6 +15,7 @@ use Rattle.scope_load.specs.State.{State}
 pub record SpellErased (files others : Files) (root : List ℕ) : Type 0 where
   pub state : State
   pub sound : IsSound files root state
+  pub there : IsSome (file_of others root)
   pub erased : IsSound others root (erased_state state)
 
 -- it was run: it is not refused, nor is it what isn't built
@@ -26,13 +26,9 @@ IsRun out = out.status ≡ Refused → ⊥
 abbrev pub HasAnswer : List ℕ → Outcome → Type 0
 HasAnswer name out = out ≡ refused NotBuilt name → ⊥
 
--- there is a text under this name, and no model of the subset runs it within this budget
-abbrev pub HasWhole : Files → List ℕ → Budget → Type 0
-HasWhole files name budget = IsSomeAnd (file_of files name) (λ text. IsWhole text (within budget false))
-
 -- In production a program that runs and the program without its annotations have one outcome, where the second is not answered as what isn't built:
 -- it is refused for no reason.
 abbrev pub ErasedOutcomesAreOne : Type 0
 ErasedOutcomesAreOne = (words : List (List ℕ)) (files others : Files) (budget : Budget) (name : List ℕ) (out other : Outcome)
-    → AskRun words (within budget false) name → SpellErased files others name → HasWhole files name budget → HasWhole others name budget
+    → AskRun words (within budget false) name → SpellErased files others name
     → IsOutcome words files out → IsOutcome words others other → IsRun out → HasAnswer name other → other ≡ out

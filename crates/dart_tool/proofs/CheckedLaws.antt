@@ -1,5 +1,4 @@
 -- The outcome of a checked run beside that of the run in production.
-use Rattle.std.specs.Prelude.{IfSome}
 use Rattle.std.proofs.Common.{◌≡◌, ◌∙◌, sym, ap, subst, refl, ℕ, List, true, false, Option, None, Some, inl, inr}
 use Rattle.dart_base.specs.declared.place.Place.{Place}
 use Rattle.dart_edge.specs.Files.{Files, file_of}
@@ -13,17 +12,14 @@ use Rattle.dart_execute.proofs.Checked.{checked_executions_follow, executes_also
 use Rattle.dart_run.specs.declared.mode.Mode.TheVariants.{Production, Checked}
 use Rattle.dart_run.specs.declared.written.Written.{Written}
 use Rattle.dart_words.specs.declared.budget.Budget.{Budget}
-use Rattle.dart_words.specs.declared.options.Options.{Options}
 use Rattle.dart_words.specs.Words.{Command}
 use Rattle.laws_checked.specs.Written.{WriteUntilReport}
 use Rattle.scope_load.specs.State.{State}
 use Rattle.dart_tool.specs.declared.outcome.Outcome.{Outcome}
 use Rattle.dart_tool.specs.declared.program.FileRefusal.{FileRefusal}
-use Rattle.dart_tool.specs.Language.{IsWhole, Writes}
 use Rattle.dart_tool.specs.Laws.{within, FollowsOutcome, outcome_same, until_report, CheckedOutcomesFollow}
 use Rattle.dart_tool.specs.Outcome.{FileGives, CommandGives, written_outcome}
-use Rattle.dart_tool.specs.Program.{IsSound}
-use Rattle.dart_tool.proofs.LanguageLaws.{whole_no_run}
+use Rattle.dart_tool.specs.Program.{Finishes, IsSound}
 use Rattle.dart_tool.proofs.Outcomes.{one_file_outcome}
 use Rattle.dart_tool.proofs.ProgramLaws.{AnyRefused}
 
@@ -67,61 +63,55 @@ module _ (files : Files) (name : List ℕ) (budget : Budget) where
 
   -- ---- what a root with this text gives
 
-  module _ (text : List ℕ) (whole : IsWhole text (within budget false)) where
-    whole_checked : IsWhole text (within budget true)
-    whole_checked = inr (λ same. let both : true ≡ false = ap (λ (o : Options). o.checked) same in absurd cc)
+  finishes_checked : (state : State) (made : Written) → IsSound files name state
+      → (y : Execution) → y ≡ execution.Ran made → ExecutesAs state (within budget true) y → Finishes files name (within budget true) made
+  finishes_checked state made sound y is so = (state, sound, subst (ExecutesAs state (within budget true)) is so)
 
-    writes_checked : (state : State) (made : Written) → IsSound files name state
-        → (y : Execution) → y ≡ execution.Ran made → ExecutesAs state (within budget true) y → Writes files name text (within budget true) made
-    writes_checked state made sound y is so = ((state, sound, subst (ExecutesAs state (within budget true)) is so), whole_checked)
+  unwritten : ((made : Written) → Finishes files name (within budget false) made → ⊥)
+      → (made : Written) → Finishes files name (within budget true) made → ⊥
+  unwritten nothing made (state, sound, so) =
+      let (x, is, follows) = in_production budget state (execution.Ran made) so in
+      elim follows [
+        | e.execution_same same ↦ nothing made (state, sound, subst (ExecutesAs state (within budget false)) (sym same) is)
+        | e.until_report plain also same other writes ↦
+            nothing plain (state, sound, subst (ExecutesAs state (within budget false)) same is)
+      ]
 
-    unwritten : ((made : Written) → Writes files name text (within budget false) made → ⊥)
-        → (made : Written) → Writes files name text (within budget true) made → ⊥
-    unwritten nothing made ((state, sound, so), w) =
-        let (x, is, follows) = in_production budget state (execution.Ran made) so in
-        elim follows [
-          | e.execution_same same ↦ nothing made ((state, sound, subst (ExecutesAs state (within budget false)) (sym same) is), whole)
-          | e.until_report plain also same other writes ↦
-              nothing plain ((state, sound, subst (ExecutesAs state (within budget false)) same is), whole)
-        ]
+  module _ (text : List ℕ) (out other : Outcome) (gives : FileGives name files (within budget true) (Some text) other) where
+    -- it has this outcome in checked mode as well
+    also : FileGives name files (within budget true) (Some text) out → FollowsOutcome out other
+    also given = outcome_same (one_file_outcome name files (within budget true) (Some text) other out gives given)
 
-    module _ (out other : Outcome) (gives : FileGives name files (within budget true) (Some text) other) where
-      -- it has this outcome in checked mode as well
-      also : FileGives name files (within budget true) (Some text) out → FollowsOutcome out other
-      also given = outcome_same (one_file_outcome name files (within budget true) (Some text) other out gives given)
+    ran_follows : (state : State) (made : Written) → IsSound files name state → out ≡ written_outcome made
+        → (y : Execution) → ExecutesAs state (within budget true) y → FollowsExecution (execution.Ran made) y → FollowsOutcome out other
+    ran_follows state made sound is y so (e.execution_same same) =
+        also (inr (inl (made, finishes_checked state made sound y same so, is)))
+    ran_follows state made sound is y so (e.until_report plain checked same checks writes) =
+        let other_is : other ≡ written_outcome checked =
+        one_file_outcome name files (within budget true) (Some text) other (written_outcome checked) gives
+        (inr (inl (checked, finishes_checked state checked sound y checks so, refl))) in
+        let one : made ≡ plain = cc in
+        until_report (subst (λ (o : Outcome). WriteUntilReport o.bytes other.bytes) (ap written_outcome (sym one) ∙ sym is)
+        (subst (λ (o : Outcome). WriteUntilReport plain.bytes o.bytes) (sym other_is) writes))
 
-      ran_follows : (state : State) (made : Written) → IsSound files name state → out ≡ written_outcome made
-          → (y : Execution) → ExecutesAs state (within budget true) y → FollowsExecution (execution.Ran made) y → FollowsOutcome out other
-      ran_follows state made sound is y so (e.execution_same same) =
-          also (inr (inr (inl (made, writes_checked state made sound y same so, is))))
-      ran_follows state made sound is y so (e.until_report plain checked same checks writes) =
-          let other_is : other ≡ written_outcome checked =
-          one_file_outcome name files (within budget true) (Some text) other (written_outcome checked) gives
-          (inr (inr (inl (checked, writes_checked state checked sound y checks so, refl)))) in
-          let one : made ≡ plain = cc in
-          until_report (subst (λ (o : Outcome). WriteUntilReport o.bytes other.bytes) (ap written_outcome (sym one) ∙ sym is)
-          (subst (λ (o : Outcome). WriteUntilReport plain.bytes o.bytes) (sym other_is) writes))
+    text_follows : FileGives name files (within budget false) (Some text) out → FollowsOutcome out other
+    text_follows (inl (against, refused, is)) = also (inl (against, refused_checked against refused, is))
+    text_follows (inr (inl (made, (state, sound, ran), is))) =
+        let (y, so, follows) = in_checked budget state (execution.Ran made) ran in
+        ran_follows state made sound is y so follows
+    text_follows (inr (inr (none, nothing, is))) = also (inr (inr (
+      (λ against refused. none against (refused_plainly against refused)),
+      unwritten nothing,
+      is,
+    )))
 
-      text_follows : FileGives name files (within budget false) (Some text) out → FollowsOutcome out other
-      text_follows (inl (against, (refused, w), is)) = also (inl (against, (refused_checked against refused, whole_checked), is))
-      text_follows (inr (inl (run, runs, is))) = absurd (whole_no_run text (within budget false) whole run runs)
-      text_follows (inr (inr (inl (made, ((state, sound, ran), w), is)))) =
-          let (y, so, follows) = in_checked budget state (execution.Ran made) ran in
-          ran_follows state made sound is y so follows
-      text_follows (inr (inr (inr (none, no_run, nothing, is)))) = also (inr (inr (inr (
-        (λ against (refused, w). none against (refused_plainly against refused, whole)),
-        whole_no_run text (within budget true) whole_checked,
-        unwritten nothing,
-        is,
-      ))))
-
-  file_follows : (content : Option (List ℕ)) (out other : Outcome) → IfSome content (λ text. IsWhole text (within budget false))
+  file_follows : (content : Option (List ℕ)) (out other : Outcome)
       → FileGives name files (within budget false) content out → FileGives name files (within budget true) content other → FollowsOutcome out other
-  file_follows None out other whole is so = outcome_same (so ∙ sym is)
-  file_follows (Some text) out other whole gives also = text_follows text whole out other also gives
+  file_follows None out other is so = outcome_same (so ∙ sym is)
+  file_follows (Some text) out other is so = text_follows text out other so is
 
 pub checked_outcomes_follow : CheckedOutcomesFollow
-checked_outcomes_follow words checked_words files budget name out other asks checks whole is so =
-    file_follows files name budget (file_of files name) out other whole
+checked_outcomes_follow words checked_words files budget name out other asks checks is so =
+    file_follows files name budget (file_of files name) out other
     (subst (λ (command : Option Command). CommandGives command files out) asks is)
     (subst (λ (command : Option Command). CommandGives command files other) checks so)

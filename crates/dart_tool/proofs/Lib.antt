@@ -3,5 +3,4 @@ pub mod LanguageLaws
 pub mod Outcomes
 pub mod ProgramLaws
 pub mod Statuses
-pub mod SubsetLaws
 pub mod UnitLaws

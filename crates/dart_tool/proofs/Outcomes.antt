@@ -1,5 +1,5 @@
 -- Words and files have one outcome, and never none.
-use Rattle.std.specs.Prelude.{IfSome, IfOk, Result, Ok, Err, ◌↔◌}
+use Rattle.std.specs.Prelude.{IfSome, IfOk, Result, Ok, Err}
 use Rattle.std.proofs.Common.{◌≡◌, ◌∙◌, sym, ap, refl, subst, ℕ, List, Option, None, Some, inl, inr}
 use Rattle.dart_edge.specs.Files.{Files, file_of}
 use Rattle.dart_edge.specs.Writes.{IsPrefix, WrotePrefix}
@@ -10,54 +10,41 @@ use Rattle.dart_words.specs.declared.words.Verb.TheVariants as v
 use Rattle.dart_words.specs.Words.{Command, command_of}
 use Rattle.dart_tool.specs.declared.outcome.Outcome.{Outcome}
 use Rattle.dart_tool.specs.declared.program.FileRefusal.{FileRefusal}
-use Rattle.dart_tool.specs.declared.run.Ended.{Ended}
-use Rattle.dart_tool.specs.declared.run.Ended.TheVariants.{Printed, Whole}
 use Rattle.dart_tool.specs.declared.status.Status.{Status}
 use Rattle.dart_tool.specs.declared.status.Status.TheVariants.{Done, Usage, Refused, Uncaught, CheckFailed, Limit, ReadFault, WriteFault, Memory}
 use Rattle.dart_tool.specs.declared.status.Refusal.{Refusal}
 use Rattle.dart_tool.specs.declared.status.Refusal.TheVariants.{NotFound, NotBuilt}
-use Rattle.dart_tool.specs.Language.{IsNoUnitFor, usual, RefusedFor, Runs, Writes, GivesEnd, DifferInAnnotationsAlone}
-use Rattle.dart_tool.specs.Outcome.{FileGives, EraseGives, VerbGives, CommandGives, IsOutcome, usage_outcome, transcript, transcript_of, written_outcome, ended_outcome, refused, erased_outcome}
-use Rattle.dart_tool.specs.Program.{WhereHas}
-use Rattle.dart_tool.specs.Run.{Run}
+use Rattle.dart_tool.specs.Language.{IsNoUnitFor, RefusedFor, GivesEnd}
+use Rattle.dart_tool.specs.Outcome.{FileGives, EraseGives, VerbGives, CommandGives, IsOutcome, usage_outcome, written_outcome, refused, erased_outcome}
+use Rattle.dart_tool.specs.Program.{Finishes, WhereHas}
 use Rattle.dart_tool.specs.Tool.{Answers, CutShort, Delivers}
-use Rattle.dart_tool.proofs.LanguageLaws.{one_refusal, one_run, one_written, run_unrefused, run_unwritten, written_unrefused, file_unread}
+use Rattle.dart_tool.proofs.ProgramLaws.{one_any, one_finish, finish_unrefused}
 use Rattle.dart_tool.proofs.UnitLaws.{one_reason_for, one_erased, erased_unrefused, erased_or_refused}
 
 pub one_file_outcome : (name : List ℕ) (files : Files) (options : Options) (content : Option (List ℕ)) (a b : Outcome) → FileGives name files options content a → FileGives name files options content b → a ≡ b
 one_file_outcome name files options None a b x y = x ∙ sym y
-one_file_outcome name files options (Some text) a b (inl (against, has, e)) (inl (also, other, f)) = e ∙ ap (λ (r : FileRefusal). refused r.why r.file) (one_refusal files name text options against also has other) ∙ sym f
-one_file_outcome name files options (Some text) a b (inl (against, has, e)) (inr (inl (run, runs, f))) = absurd (run_unrefused files name text options run against runs has)
-one_file_outcome name files options (Some text) a b (inl (against, has, e)) (inr (inr (inl (made, writes, f)))) = absurd (written_unrefused files name text options made against writes has)
-one_file_outcome name files options (Some text) a b (inl (against, has, e)) (inr (inr (inr (none, no_run, nothing, f)))) = absurd (none against has)
-one_file_outcome name files options (Some text) a b (inr (inl (run, runs, e))) (inl (against, has, f)) = absurd (run_unrefused files name text options run against runs has)
-one_file_outcome name files options (Some text) a b (inr (inl (run, runs, e))) (inr (inl (other, also, f))) = e ∙ ap transcript (one_run text options run other runs also) ∙ sym f
-one_file_outcome name files options (Some text) a b (inr (inl (run, runs, e))) (inr (inr (inl (made, writes, f)))) = absurd (run_unwritten files name text options run made runs writes)
-one_file_outcome name files options (Some text) a b (inr (inl (run, runs, e))) (inr (inr (inr (none, no_run, nothing, f)))) = absurd (no_run run runs)
-one_file_outcome name files options (Some text) a b (inr (inr (inl (made, writes, e)))) (inl (against, has, f)) = absurd (written_unrefused files name text options made against writes has)
-one_file_outcome name files options (Some text) a b (inr (inr (inl (made, writes, e)))) (inr (inl (run, runs, f))) = absurd (run_unwritten files name text options run made runs writes)
-one_file_outcome name files options (Some text) a b (inr (inr (inl (made, writes, e)))) (inr (inr (inl (other, also, f)))) = e ∙ ap written_outcome (one_written files name text options made other writes also) ∙ sym f
-one_file_outcome name files options (Some text) a b (inr (inr (inl (made, writes, e)))) (inr (inr (inr (none, no_run, nothing, f)))) = absurd (nothing made writes)
-one_file_outcome name files options (Some text) a b (inr (inr (inr (none, no_run, nothing, e)))) (inl (against, has, f)) = absurd (none against has)
-one_file_outcome name files options (Some text) a b (inr (inr (inr (none, no_run, nothing, e)))) (inr (inl (run, runs, f))) = absurd (no_run run runs)
-one_file_outcome name files options (Some text) a b (inr (inr (inr (none, no_run, nothing, e)))) (inr (inr (inl (made, writes, f)))) = absurd (nothing made writes)
-one_file_outcome name files options (Some text) a b (inr (inr (inr (none, no_run, nothing, e)))) (inr (inr (inr (none', no_run', nothing', f)))) = e ∙ sym f
+one_file_outcome name files options (Some text) a b (inl (against, has, e)) (inl (also, other, f)) = e ∙ ap (λ (r : FileRefusal). refused r.why r.file) (one_any files name options against also has other) ∙ sym f
+one_file_outcome name files options (Some text) a b (inl (against, has, e)) (inr (inl (made, finishes, f))) = absurd (finish_unrefused files name options against made has finishes)
+one_file_outcome name files options (Some text) a b (inl (against, has, e)) (inr (inr (none, nothing, f))) = absurd (none against has)
+one_file_outcome name files options (Some text) a b (inr (inl (made, finishes, e))) (inl (against, has, f)) = absurd (finish_unrefused files name options against made has finishes)
+one_file_outcome name files options (Some text) a b (inr (inl (made, finishes, e))) (inr (inl (other, also, f))) = e ∙ ap written_outcome (one_finish files name options made other finishes also) ∙ sym f
+one_file_outcome name files options (Some text) a b (inr (inl (made, finishes, e))) (inr (inr (none, nothing, f))) = absurd (nothing made finishes)
+one_file_outcome name files options (Some text) a b (inr (inr (none, nothing, e))) (inl (against, has, f)) = absurd (none against has)
+one_file_outcome name files options (Some text) a b (inr (inr (none, nothing, e))) (inr (inl (made, finishes, f))) = absurd (nothing made finishes)
+one_file_outcome name files options (Some text) a b (inr (inr (none, nothing, e))) (inr (inr (none', nothing', f))) = e ∙ sym f
 
--- a root that comes to a run, or writes something
-pub ended_given : (told : Option Files) (name text : List ℕ) (options : Options) (ended : Ended) (out : Outcome) → GivesEnd told name text options (Some ended) → out ≡ ended_outcome ended → WhereHas told name text (λ files. FileGives name files options (Some text) out)
-ended_given None name text options ended out gives is = tt
-ended_given (Some files) name text options (Printed printed) out (run, runs, print) is = λ has.
-    let same : transcript_of printed.bytes printed.ending ≡ transcript run = λ i. transcript_of (print.0 i) (print.1 i) in
-    inr (inl (run, runs, is ∙ same))
-ended_given (Some files) name text options (Whole made) out gives is = λ has. inr (inr (inl (made, gives has, is)))
+-- a root whose program writes something
+pub written_given : (told : Option Files) (name text : List ℕ) (options : Options) (made : Written) (out : Outcome) → GivesEnd told name text options (Some made) → out ≡ written_outcome made → WhereHas told name text (λ files. FileGives name files options (Some text) out)
+written_given None name text options made out gives is = tt
+written_given (Some files) name text options made out gives is = λ has. inr (inl (made, gives has, is))
 
--- one that is refused for no reason, comes to no run and writes nothing
-pub not_built : (told : Option Files) (name text : List ℕ) (options : Options) (out : Outcome) → WhereHas told name text (λ files. (against : FileRefusal) → RefusedFor files name text options against → ⊥) → GivesEnd told name text options None → out ≡ refused NotBuilt name → WhereHas told name text (λ files. FileGives name files options (Some text) out)
-not_built None name text options out no_reason none is = tt
-not_built (Some files) name text options out no_reason (no_run, nothing) is = λ has. inr (inr (inr (no_reason has, no_run, nothing has, is)))
+-- one that is refused for no reason and writes nothing
+pub not_built : (told : Option Files) (name text : List ℕ) (options : Options) (out : Outcome) → WhereHas told name text (λ files. (against : FileRefusal) → RefusedFor files name options against → ⊥) → GivesEnd told name text options None → out ≡ refused NotBuilt name → WhereHas told name text (λ files. FileGives name files options (Some text) out)
+not_built None name text options out no_reason nothing is = tt
+not_built (Some files) name text options out no_reason nothing is = λ has. inr (inr (no_reason has, nothing has, is))
 
 -- one that is refused
-pub refusal_given : (told : Option Files) (name text : List ℕ) (options : Options) (against : FileRefusal) (out : Outcome) → WhereHas told name text (λ files. RefusedFor files name text options against) → out ≡ refused against.why against.file → WhereHas told name text (λ files. FileGives name files options (Some text) out)
+pub refusal_given : (told : Option Files) (name text : List ℕ) (options : Options) (against : FileRefusal) (out : Outcome) → WhereHas told name text (λ files. RefusedFor files name options against) → out ≡ refused against.why against.file → WhereHas told name text (λ files. FileGives name files options (Some text) out)
 refusal_given None name text options against out refused is = tt
 refusal_given (Some files) name text options against out refused is = λ has. inl (against, refused has, is)
 
@@ -111,10 +98,9 @@ one_outcome words files a b x y = one_command_outcome (command_of words) files a
 some_file_outcome : (name : List ℕ) (files : Files) (options : Options) (content : Option (List ℕ)) → ((out : Outcome) → FileGives name files options content out → ⊥) → ⊥
 some_file_outcome name files options None none = none (refused NotFound name) refl
 some_file_outcome name files options (Some text) none =
-    let no_reason : (against : FileRefusal) → RefusedFor files name text options against → ⊥ = λ against has. none (refused against.why against.file) (inl (against, has, refl)) in
-    let no_run : (run : Run) → Runs text options run → ⊥ = λ run runs. none (transcript run) (inr (inl (run, runs, refl))) in
-    let nothing : (made : Written) → Writes files name text options made → ⊥ = λ made writes. none (written_outcome made) (inr (inr (inl (made, writes, refl)))) in
-    none (refused NotBuilt name) (inr (inr (inr (no_reason, no_run, nothing, refl))))
+    let no_reason : (against : FileRefusal) → RefusedFor files name options against → ⊥ = λ against has. none (refused against.why against.file) (inl (against, has, refl)) in
+    let nothing : (made : Written) → Finishes files name options made → ⊥ = λ made finishes. none (written_outcome made) (inr (inl (made, finishes, refl))) in
+    none (refused NotBuilt name) (inr (inr (no_reason, nothing, refl)))
 
 some_erase_outcome : (name : List ℕ) (content : Option (List ℕ)) → ((out : Outcome) → EraseGives name content out → ⊥) → ⊥
 some_erase_outcome name None none = none (refused NotFound name) refl
@@ -165,10 +151,3 @@ words_answer (Some files) words command status before after e h = subst (λ (c :
 pub usage_answers : (told : Option Files) (status : Status) (before after : Option (List ℕ)) → Delivers usage_outcome status before after → IfSome told (λ files. Answers (CommandGives None files) status before after)
 usage_answers None status before after h = tt
 usage_answers (Some files) status before after h = answers_from_delivered (CommandGives None files) usage_outcome status before after refl (λ out due. due) h
-
--- type annotations in a file that is run aren't read
-pub outcome_unread : (words : List (List ℕ)) (files others : Files) (name text other : List ℕ) (out : Outcome) → command_of words ≡ Some (record { verb = v.Run usual; file = name }) → file_of files name ≡ Some text → file_of others name ≡ Some other → DifferInAnnotationsAlone text other → (IsOutcome words files out) ↔ (IsOutcome words others out)
-outcome_unread words files others name text other out is here there d =
-    let gives : (FileGives name files usual (Some text) out) ↔ (FileGives name others usual (Some other) out) = file_unread name files others text other out d in
-    let from : (FileGives name files usual (file_of files name) out) ↔ (FileGives name others usual (file_of others name) out) = rw (here, there) gives in
-    rw is from

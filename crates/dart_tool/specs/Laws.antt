@@ -1,6 +1,6 @@
 -- What the tool answers over devices that never fail, and what checked mode changes.
-use Rattle.std.specs.Prelude.{◌≡◌, ◌++◌, ℕ, List, Bool, true, false, Some, IfSome}
-use Rattle.dart_edge.specs.Files.{Files, file_of}
+use Rattle.std.specs.Prelude.{◌≡◌, ◌++◌, ℕ, List, Bool, true, false, Some}
+use Rattle.dart_edge.specs.Files.{Files}
 use Rattle.dart_edge.specs.Writes.{IsPrefix}
 use Rattle.dart_words.specs.declared.budget.Budget.{Budget}
 use Rattle.dart_words.specs.declared.options.Options.{Options}
@@ -10,7 +10,6 @@ use Rattle.laws_checked.specs.Written.{WriteUntilReport}
 use Rattle.dart_tool.specs.declared.outcome.Outcome.{Outcome}
 use Rattle.dart_tool.specs.declared.status.Status.{Status}
 use Rattle.dart_tool.specs.declared.status.Status.TheVariants.{ReadFault, WriteFault, Memory}
-use Rattle.dart_tool.specs.Language.{IsWhole}
 use Rattle.dart_tool.specs.Outcome.{IsOutcome}
 
 -- No fault, and but for being out of memory the outcome's status and all its bytes.
@@ -38,10 +37,8 @@ pub data FollowsOutcome (production checked : Outcome) : Type 0 where
   outcome_same : checked ≡ production → FollowsOutcome production checked
   until_report : WriteUntilReport production.bytes checked.bytes → FollowsOutcome production checked
 
--- The outcome of a checked run of a file follows that of its run in production within the same budget, unless the subset's model runs
--- that one.
+-- The outcome of a checked run of a file follows that of its run in production within the same budget.
 abbrev pub CheckedOutcomesFollow : Type 0
 CheckedOutcomesFollow = (words checked_words : List (List ℕ)) (files : Files) (budget : Budget) (name : List ℕ) (out other : Outcome)
     → AskRun words (within budget false) name → AskRun checked_words (within budget true) name
-    → IfSome (file_of files name) (λ text. IsWhole text (within budget false))
     → IsOutcome words files out → IsOutcome checked_words files other → FollowsOutcome out other

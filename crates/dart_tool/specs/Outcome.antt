@@ -15,17 +15,17 @@ use Rattle.turn_text.specs.declared.finish.Finish.{Finish}
 use Rattle.turn_text.specs.declared.finish.Finish.TheVariants as f
 use Rattle.dart_tool.specs.declared.outcome.Outcome.{Outcome}
 use Rattle.dart_tool.specs.declared.program.FileRefusal.{FileRefusal}
-use Rattle.dart_tool.specs.declared.run.Ended.{Ended}
-use Rattle.dart_tool.specs.declared.run.Ended.TheVariants.{Printed, Whole}
-use Rattle.dart_tool.specs.declared.run.Ending.{Ending}
-use Rattle.dart_tool.specs.declared.run.Ending.TheVariants.{Returned, IntegerLimit}
 use Rattle.dart_tool.specs.declared.status.Status.{Status}
 use Rattle.dart_tool.specs.declared.status.Status.TheVariants.{Done, Usage, Refused, Uncaught, CheckFailed, Limit, ReadFault, WriteFault, Memory}
 use Rattle.dart_tool.specs.declared.status.Refusal.{Refusal}
 use Rattle.dart_tool.specs.declared.status.Refusal.TheVariants.{NotFound, NotUtf8, BadToken, LeftOut, IntegerTooLarge, Syntax, TooDeep, BadDirective, ProgramTooLarge, Duplicate, NoMain, CyclicClasses, BadSuper, BadMixin, TypesTooLarge, NotConstant, BadLabel, BadConstructor, BadSwitch, BadWord, TooManyParameters, NotBuilt}
-use Rattle.dart_tool.specs.Language.{IsNoUnitFor, RefusedFor, Runs, Writes}
-use Rattle.dart_tool.specs.Run.{Run, with_end, printed_bytes}
+use Rattle.dart_tool.specs.Language.{IsNoUnitFor, RefusedFor}
+use Rattle.dart_tool.specs.Program.{Finishes}
 use Rattle.dart_tool.specs.Status.{refusal_text}
+
+-- a line with its end
+abbrev pub with_end : List ℕ → List ℕ
+with_end line = line ++ codes "\n"
 
 abbrev pub usage_line : List ℕ
 usage_line =
@@ -80,49 +80,25 @@ refused why name = record {
   bytes = with_end (codes "** refused " ++ (refusal_text why ++ refusal_details why name));
 }
 
-abbrev pub end_status : Ending → Status
-end_status Returned = Done
-end_status IntegerLimit = Limit
-
--- a normal ending writes no line
-abbrev pub end_bytes : Ending → List ℕ
-end_bytes Returned = []
-end_bytes IntegerLimit = with_end (codes "** limit IntegerLimit")
-
--- what was printed, and the line of an abnormal ending
-abbrev pub transcript_of : List ℕ → Ending → Outcome
-transcript_of bytes ending =
-    record { status = end_status ending; bytes = bytes ++ end_bytes ending }
-
--- the transcript of a run: the printed lines, and the line of an abnormal ending
-abbrev pub transcript : Run → Outcome
-transcript run = transcript_of (printed_bytes run) run.ending
-
 abbrev pub finish_status : Finish → Status
 finish_status f.Done = Done
 finish_status f.Uncaught = Uncaught
 finish_status f.CheckFailed = CheckFailed
 finish_status f.Limit = Limit
 
--- what a program of the whole language writes, and how it finishes
+-- what a program writes, and how it finishes
 abbrev pub written_outcome : Written → Outcome
 written_outcome made = record { status = finish_status made.finish; bytes = made.bytes }
 
--- what a program comes to that runs
-abbrev pub ended_outcome : Ended → Outcome
-ended_outcome (Printed printed) = transcript_of printed.bytes printed.ending
-ended_outcome (Whole made) = written_outcome made
-
 -- What `run` gives, as options ask, for a root that isn't there, or for one with this text: the refusal for the program's reason, or
--- the transcript of its run, or what it writes, or, where it has none of these, NotBuilt.
+-- what it writes, or, where it has neither, NotBuilt.
 abbrev pub FileGives : List ℕ → Files → Options → Option (List ℕ) → Outcome → Type 0
 FileGives name files options None out = out ≡ refused NotFound name
 FileGives name files options (Some text) out =
-    ((against : FileRefusal) × RefusedFor files name text options against × (out ≡ refused against.why against.file)) ⊎
-    (((run : Run) × Runs text options run × (out ≡ transcript run)) ⊎
-    (((made : Written) × Writes files name text options made × (out ≡ written_outcome made)) ⊎
-    (((against : FileRefusal) → RefusedFor files name text options against → ⊥) × ((run : Run) → Runs text options run → ⊥) ×
-    ((made : Written) → Writes files name text options made → ⊥) × (out ≡ refused NotBuilt name))))
+    ((against : FileRefusal) × RefusedFor files name options against × (out ≡ refused against.why against.file)) ⊎
+    (((made : Written) × Finishes files name options made × (out ≡ written_outcome made)) ⊎
+    (((against : FileRefusal) → RefusedFor files name options against → ⊥) ×
+    ((made : Written) → Finishes files name options made → ⊥) × (out ≡ refused NotBuilt name)))
 
 -- the text of a unit without annotations
 abbrev pub erased_outcome : List ℕ → Outcome

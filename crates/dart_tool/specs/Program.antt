@@ -21,8 +21,6 @@ use Rattle.scope_reason.specs.declared.reason.ProgramReason.TheVariants as w
 use Rattle.scope_reason.specs.Reason.{program_reason}
 use Rattle.dart_tool.specs.declared.program.FileRefusal.{FileRefusal}
 use Rattle.dart_tool.specs.declared.program.RunStop.{RunStop}
-use Rattle.dart_tool.specs.declared.run.Ended.{Ended}
-use Rattle.dart_tool.specs.declared.run.Ended.TheVariants.{Printed, Whole}
 use Rattle.dart_tool.specs.declared.program.RunStop.TheVariants.{Refused, Failed, Memory}
 use Rattle.dart_tool.specs.declared.status.Refusal.TheVariants.{ProgramTooLarge, Duplicate, NoMain}
 use Rattle.dart_tool.specs.Status.{reason_refusal, cause_refusal}
@@ -77,9 +75,8 @@ abbrev pub execution_refusal : State → Place → Cause → FileRefusal
 execution_refusal state place cause = record { file = unit_file (unit_at state place); why = cause_refusal place cause }
 
 -- What an answer says of a program whose units are loaded: it ran and wrote this, or has what isn't built, or is refused for this.
-abbrev pub EndsAs : State → Options → Result (Option Ended) RunStop → Type 0
-EndsAs state options (Ok (Some (Whole made))) = ExecutesAs state options (execution.Ran made)
-EndsAs state options (Ok (Some (Printed printed))) = ⊥
+abbrev pub EndsAs : State → Options → Result (Option Written) RunStop → Type 0
+EndsAs state options (Ok (Some made)) = ExecutesAs state options (execution.Ran made)
 EndsAs state options (Ok None) = ExecutesAs state options execution.NotBuilt
 EndsAs state options (Err (Refused against)) = (place : Place) × (cause : Cause) ×
     ExecutesAs state options (execution.Refused place cause) × (against ≡ execution_refusal state place cause)

@@ -1,24 +1,21 @@
-// From the bytes of a file to what its program prints, to its text without annotations, or to the reason for which it is
+// From the bytes of a file to what its program writes, to its text without annotations, or to the reason for which it is
 // refused.
-ghost use Rattle.std.specs.Prelude.{◌≡◌, ◌↔◌, ◌<◌, ◌^◌, IfOk, IfErr, IsTrue, false};
+ghost use Rattle.std.specs.Prelude.{◌≡◌, ◌<◌, ◌^◌, IfOk, IfErr, false};
 ghost use Rattle.dart_edge.specs.Fault.{Counts};
 ghost use Rattle.dart_front.specs.Texts.{ErasesTo};
 ghost use Rattle.scope_load.specs.State.{state_of};
-ghost use Rattle.dart_tool.specs.Language.{GivesEnd, IsNoUnitFor, IsWhole, RefusedFor, Stops, stop_for, usual};
+ghost use Rattle.dart_tool.specs.Language.{GivesEnd, IsNoUnitFor, RefusedFor, Stops, stop_for};
 ghost use Rattle.dart_tool.specs.Program.{EndsAs, Judges, run_failed};
 ghost use Rattle.dart_tool.specs.Status.{text_refusal};
 
 use crate::program::{RunStop, execution_refusal, load_program};
-use crate::run::Ended;
 use crate::status::Refusal;
-use crate::subset::evaluate;
-use crate::subset::source::{Reading, reading_of};
 use dart_base::bytes::Bytes;
-use dart_base::limit::{USUAL_STEPS, USUAL_STORE_UNITS};
 use dart_edge::source::Sources;
 use dart_execute::execution::{Execution, execute};
 use dart_front::erased::erased_text;
 use dart_front::fault::TextFault;
+use dart_run::written::Written;
 use dart_words::options::Options;
 use scope_load::loaded::Loaded;
 use std::alloc::Global;
@@ -56,13 +53,13 @@ fn execute_loaded(
     alloc: Global,
     loaded: &Loaded,
     options: Options,
-) -> Result<Option<Ended>, RunStop>
+) -> Result<Option<Written>, RunStop>
     requires units { options.budget.units < 2 ^ 32 }
     ensures answer { EndsAs (state_of loaded.now) options result }
     ensures failed { run_failed result ≡ false }
 {
     match execute(alloc, loaded, options) {
-        Ok(Execution::Ran(made)) => Ok(Some(Ended::Whole(made))),
+        Ok(Execution::Ran(made)) => Ok(Some(made)),
         Ok(Execution::NotBuilt) => Ok(None),
         Ok(Execution::Refused(place, cause)) => {
             match execution_refusal(alloc, loaded, place, cause) {
@@ -74,35 +71,6 @@ fn execute_loaded(
     }
 }
 
-// Whether they are those of a run whose words have none: production, within the usual budget.
-fn is_usual(options: Options) -> bool
-    ensures { IsTrue result ↔ (options ≡ usual) }
-{
-    let budget = options.budget;
-    !options.checked && budget.steps == USUAL_STEPS && budget.units == USUAL_STORE_UNITS
-}
-
-// Runs a program that isn't run as one of the subset.
-fn run_whole<S: Sources>(
-    alloc: Global,
-    name: &str,
-    text: &[u8],
-    options: Options,
-    sources: &mut S,
-) -> Result<Option<Ended>, RunStop>
-    requires units { options.budget.units < 2 ^ 32 }
-    requires other { IsWhole text.now options }
-    ensures runs { IfOk result (GivesEnd (S.files sources.old) name.now text.now options) }
-    ensures answer { Judges (λ files. RefusedFor files name.now text.now options) (S.files sources.old) name.now text.now result }
-    ensures same { S.files sources.new ≡ S.files sources.old }
-    ensures cause { Counts (run_failed result) (S.faults sources.old) (S.faults sources.new) }
-{
-    match load_program(alloc, name, text, sources) {
-        Ok(loaded) => execute_loaded(alloc, &loaded, options),
-        Err(stop) => Err(stop),
-    }
-}
-
 /// Runs the program whose root has this name and text, as the options ask. None where it is refused for no reason, and yet has what
 /// isn't built.
 pub fn run_text<S: Sources>(
@@ -111,22 +79,16 @@ pub fn run_text<S: Sources>(
     text: &[u8],
     options: Options,
     sources: &mut S,
-) -> Result<Option<Ended>, RunStop>
+) -> Result<Option<Written>, RunStop>
     requires units { options.budget.units < 2 ^ 32 }
     ensures runs { IfOk result (GivesEnd (S.files sources.old) name.now text.now options) }
-    ensures answer { Judges (λ files. RefusedFor files name.now text.now options) (S.files sources.old) name.now text.now result }
+    ensures answer { Judges (λ files. RefusedFor files name.now options) (S.files sources.old) name.now text.now result }
     ensures same { S.files sources.new ≡ S.files sources.old }
     ensures cause { Counts (run_failed result) (S.faults sources.old) (S.faults sources.new) }
 {
-    if !is_usual(options) {
-        return run_whole(alloc, name, text, options, sources);
-    }
-    match reading_of(alloc, text)? {
-        Reading::Source(statements) => {
-            Ok(Some(Ended::Printed(evaluate::run(alloc, &statements)?)))
-        }
-        Reading::Unfit => run_whole(alloc, name, text, options, sources),
-        Reading::Unspelled => run_whole(alloc, name, text, options, sources),
+    match load_program(alloc, name, text, sources) {
+        Ok(loaded) => execute_loaded(alloc, &loaded, options),
+        Err(stop) => Err(stop),
     }
 }
 

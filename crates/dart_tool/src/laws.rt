@@ -1,16 +1,11 @@
 // What follows from the definitions of an outcome, and from the contract of the whole tool.
-ghost use Rattle.std.specs.Prelude.{◌≡◌, ◌↔◌, ℕ, List, Some, map};
+ghost use Rattle.std.specs.Prelude.{◌≡◌, ℕ, List, map};
 ghost use Rattle.std.specs.String.{string_bytes};
-ghost use Rattle.dart_edge.specs.Files.{Files, file_of};
+ghost use Rattle.dart_edge.specs.Files.{Files};
 ghost use Rattle.dart_edge.specs.Memory.{safe_files, safe_written};
-ghost use Rattle.dart_words.specs.declared.options.Options.{Options};
-ghost use Rattle.dart_words.specs.declared.words.Verb.TheVariants as v;
-ghost use Rattle.dart_words.specs.Words.{command_of};
 ghost use Rattle.dart_tool.specs.declared.outcome.Outcome.{Outcome};
-ghost use Rattle.dart_tool.specs.Language.{DifferInAnnotationsAlone, Runs, usual};
 ghost use Rattle.dart_tool.specs.Laws.{AnswersSafely, CheckedOutcomesFollow};
-ghost use Rattle.dart_tool.specs.Outcome.{FileGives, IsOutcome};
-ghost use Rattle.dart_tool.specs.Run.{Run};
+ghost use Rattle.dart_tool.specs.Outcome.{IsOutcome};
 
 use crate::status::Status;
 use crate::tool::dart;
@@ -33,24 +28,8 @@ pub fn never_without_outcome()
         ((out : Outcome) → IsOutcome words files out → ⊥) → ⊥ }
 {}
 
-/// Type annotations of variables are never read: texts that differ in these alone, of which one is the source of a program of the
-/// subset, have the same run, and in production within the usual budget the same outcome.
-pub fn annotations_are_not_read()
-    ensures run { (text other : List ℕ) (options : Options) (run : Run) → DifferInAnnotationsAlone text other →
-        Runs text options run ↔ Runs other options run }
-    ensures file { (name : List ℕ) (files others : Files) (text other : List ℕ) (out : Outcome) →
-        DifferInAnnotationsAlone text other →
-        FileGives name files usual (Some text) out ↔ FileGives name others usual (Some other) out }
-    ensures outcome { (words : List (List ℕ)) (files others : Files)
-        (name text other : List ℕ) (out : Outcome) →
-        command_of words ≡ Some (record { verb = v.Run usual; file = name }) →
-        file_of files name ≡ Some text → file_of others name ≡ Some other →
-        DifferInAnnotationsAlone text other →
-        IsOutcome words files out ↔ IsOutcome words others out }
-{}
-
 /// What `run --checked` writes of a file up to its first report is what `run` writes first within the same budget; where nothing is
-/// reported the outcomes are the same. It says nothing of programs that the model of the subset runs.
+/// reported the outcomes are the same.
 pub fn checked_outcomes_follow()
     ensures { CheckedOutcomesFollow }
 {}

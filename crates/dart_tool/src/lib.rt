@@ -5,9 +5,7 @@ mod language;
 pub mod laws;
 mod outcome;
 mod program;
-mod run;
 pub mod status;
-mod subset;
 #[cfg(test)]
 mod tests;
 pub mod tool;

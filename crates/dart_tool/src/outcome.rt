@@ -4,14 +4,13 @@ ghost use Rattle.std.specs.Fmt.{decimal};
 ghost use Rattle.dart_edge.specs.Fault.{Counts};
 ghost use Rattle.dart_edge.specs.Files.{file_of};
 ghost use Rattle.dart_edge.specs.Reads.{read_failed};
-ghost use Rattle.dart_tool.specs.Outcome.{EraseGives, FileGives, VerbGives, refused, refusal_details, shown, named, named_place, transcript_of, is_cut_short};
-ghost use Rattle.dart_tool.specs.Outcome.{ended_outcome, finish_status, written_outcome};
+ghost use Rattle.dart_tool.specs.Outcome.{EraseGives, FileGives, VerbGives, refused, refusal_details, shown, named, named_place, is_cut_short};
+ghost use Rattle.dart_tool.specs.Outcome.{finish_status, written_outcome};
 ghost use Rattle.dart_tool.specs.Program.{WhereHas};
 ghost use Rattle.dart_words.specs.Words.{KeepsLimits};
 
 use crate::language::{Stop, erase_text, run_text};
 use crate::program::RunStop;
-use crate::run::{Ended, Ending, Printed};
 use crate::status::{Refusal, Status};
 use dart_base::bytes::Bytes;
 use dart_base::place::Place;
@@ -123,26 +122,6 @@ pub fn refused(alloc: Global, why: Refusal, name: &[u8]) -> Result<Outcome, Allo
     })
 }
 
-/// What a run printed, and then the line of an abnormal ending.
-pub fn transcript_of(printed: Printed) -> Result<Outcome, AllocError>
-    ensures { IfOk result (λ out. out ≡ transcript_of printed.bytes printed.ending) }
-{
-    let Printed { mut bytes, ending } = printed;
-    match ending {
-        Ending::Returned => Ok(Outcome {
-            status: Status::Done,
-            bytes,
-        }),
-        Ending::IntegerLimit => {
-            bytes.append(b"** limit IntegerLimit\n")?;
-            Ok(Outcome {
-                status: Status::Limit,
-                bytes,
-            })
-        }
-    }
-}
-
 fn finish_status(finish: Finish) -> Status
     ensures { result ≡ finish_status finish }
 {
@@ -154,23 +133,13 @@ fn finish_status(finish: Finish) -> Status
     }
 }
 
-// What a program of the whole language writes, and how it finishes.
+// What a program writes, and how it finishes.
 fn written_outcome(made: Written) -> Outcome
     ensures { result ≡ written_outcome made }
 {
     Outcome {
         status: finish_status(made.finish),
         bytes: made.bytes,
-    }
-}
-
-// What a program comes to that runs.
-fn ended_outcome(ended: Ended) -> Result<Outcome, AllocError>
-    ensures { IfOk result (λ out. out ≡ ended_outcome ended) }
-{
-    match ended {
-        Ended::Printed(printed) => transcript_of(printed),
-        Ended::Whole(made) => Ok(written_outcome(made)),
     }
 }
 
@@ -191,7 +160,7 @@ fn run_outcome<S: Sources>(
     ensures cause { Counts (read_failed result) (S.faults sources.old) (S.faults sources.new) }
 {
     match run_text(alloc, name, text, options, sources) {
-        Ok(Some(ended)) => Ok(ended_outcome(ended)?),
+        Ok(Some(made)) => Ok(written_outcome(made)),
         Ok(None) => Ok(refused(alloc, Refusal::NotBuilt, name.as_bytes())?),
         Err(RunStop::Refused(against)) => {
             Ok(refused(alloc, against.why, against.file.as_slice())?)
