@@ -1,0 +1,7 @@
+use Rattle.std.proofs.Common.{ap}
+use Rattle.core_text.specs.Line.{word}
+use Rattle.core_text.proofs.Added.{behind, told}
+use Rattle.core_text.proofs.name.push_static.Goals as goal
+
+pub returns : goal.returns
+returns c = behind c.in_ok-push_number.ensures (told (ap word c.static_name.ensures) c.push_word.ensures)
