@@ -2,7 +2,7 @@
 use Rattle.std.proofs.Common.{◌≡◌, refl, None, Some}
 use Rattle.dart_tree.specs.Tree as t
 use Rattle.dart_erase.specs.Erased as erased
-use Rattle.dart_erase.specs.Levels.{binds, is_place, ends_in_place, is_primary_target, is_target}
+use Rattle.dart_erase.specs.Precedence.{binds, is_place, ends_in_place, is_primary_target, is_target}
 
 pub binds_as_before : (x : t.Operand) → binds (erased.operand x) ≡ binds x
 unfolding erased.operand erased.tails

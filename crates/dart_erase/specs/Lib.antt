@@ -1,4 +1,4 @@
 pub mod Erased
 pub mod UnitErased
 pub mod Thinned
-pub mod Levels
+pub mod Precedence

@@ -2,7 +2,7 @@
 ghost use Rattle.std.specs.Prelude.{◌≡◌, ◌≤◌};
 ghost use Rattle.dart_tree.specs.Depth.{unit_height};
 ghost use Rattle.dart_erase.specs.Erased as erased;
-ghost use Rattle.dart_erase.specs.Levels.{binds, is_target};
+ghost use Rattle.dart_erase.specs.Precedence.{binds, is_target};
 ghost use Rattle.dart_tree.specs.Tree.{Operand};
 ghost use Rattle.dart_erase.specs.Thinned.{Thinned};
 ghost use Rattle.dart_tree.specs.Unit.{UnitTree};

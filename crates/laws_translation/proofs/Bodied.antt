@@ -12,7 +12,7 @@ use Rattle.laws_translation.specs.LinedUnit as unit_lined
 use Rattle.dart_erase.specs.UnitErased as unit_erased
 use Rattle.translation.specs.Surroundings.{Text, Ty, Core, Names}
 use Rattle.translation.specs.Walk.{Made, State, Walk}
-use Rattle.translation.specs.Types.{Word, word_of, text_of}
+use Rattle.translation.specs.Types.{PlacedName, word_of, text_of}
 use Rattle.translation.specs.References.{block}
 use Rattle.translation.specs.Functions as f
 use Rattle.translation.specs.Declarations as d
@@ -114,12 +114,12 @@ generated_same : (xs : List cl.Draft) → map b.generated (map draft xs) ≡ map
 generated_same [] = refl
 generated_same (x ∷ xs) = ap (λ (z : List cl.Generated). b.generated x ∷ z) (generated_same xs)
 
-class_made_goes : (r : cl.Around) (w' w : Word) (xs : List u.Member) (x : cl.Parts) → w' ≡ k.word w → Goes class_made (b.class_made (around r) w' (map bare_member xs) (parts x)) (b.class_made r w xs x)
+class_made_goes : (r : cl.Around) (w' w : PlacedName) (xs : List u.Member) (x : cl.Parts) → w' ≡ k.word w → Goes class_made (b.class_made (around r) w' (map bare_member xs) (parts x)) (b.class_made r w xs x)
 class_made_goes r w' w xs x h q = done _ _ _ _ _
     (λ i. record { class = r.class; names = q.names; name = h i; members = map bare_member xs; fields = map field r.fields; values = map k.core x.values; count = r.count; has_constructor = has_same xs i; constructors = generated_same x.drafts i })
     (drafts_kept x.values x.drafts q)
 
-members_made_goes : (r : cl.Around) (w' w : Word) (xs : List u.Member) → w' ≡ k.word w → Goes class_made (b.members_made (around r) w' (map bare_member xs)) (b.members_made r w xs)
+members_made_goes : (r : cl.Around) (w' w : PlacedName) (xs : List u.Member) → w' ≡ k.word w → Goes class_made (b.members_made (around r) w' (map bare_member xs)) (b.members_made r w xs)
 members_made_goes r w' w xs h q = on_ends _ _ _ _ _ _ (members_goes r xs xs q) (λ x q. class_made_goes r w' w xs x h q)
 
 around_kept : (n : ℕ) (o : Option (List Ty)) (name : Text) (xs : List u.Member) (q : State) → b.around_of n o name (map bare_member xs) (k.state q) ≡ around (b.around_of n o name xs q)
@@ -135,7 +135,7 @@ pub around_in_kept : (n : ℕ) (o : Option (List Ty)) (name : Text) (xs : List u
 around_in_kept n o name xs q = (λ i. b.counting (around_kept n o name xs (d.standing_in (standing_of n o) q) i) (map bare_member xs) (k.state q)) ∙
     counting_kept (b.around_of n o name xs (d.standing_in (standing_of n o) q)) xs q
 
-class_members_goes : (n : ℕ) (w' w : Word) (xs : List u.Member) → w' ≡ k.word w → Goes class_made (b.class_members n w' (map bare_member xs)) (b.class_members n w xs)
+class_members_goes : (n : ℕ) (w' w : PlacedName) (xs : List u.Member) → w' ≡ k.word w → Goes class_made (b.class_members n w' (map bare_member xs)) (b.class_members n w xs)
 class_members_goes n w' w xs h q =
     (λ i. b.members_made (b.around_in n None (h i).text (map bare_member xs) (k.state q)) w' (map bare_member xs) (k.state q)) ∙
     (λ i. b.members_made (around_in_kept n None w.text xs q i) w' (map bare_member xs) (k.state q)) ∙
@@ -145,14 +145,14 @@ twice_mapped : (xs : List u.Member) → map unit_lined.member (map unit_erased.m
 twice_mapped [] = refl
 twice_mapped (x ∷ xs) = ap (λ (z : List u.Member). bare_member x ∷ z) (twice_mapped xs)
 
-without_members_goes : (n : ℕ) (w' w : Word) → w' ≡ k.word w → Goes class_made (b.without_members n w') (b.without_members n w)
+without_members_goes : (n : ℕ) (w' w : PlacedName) → w' ≡ k.word w → Goes class_made (b.without_members n w') (b.without_members n w)
 without_members_goes n w' w h q = done _ _ _ _ q
     (λ i. record { class = n; names = q.names; name = h i; members = []; fields = []; values = []; count = 0; has_constructor = true; constructors = [] }) refl
 
 abbrev bare_class : u.ClassKind → u.ClassKind
 bare_class x = unit_lined.class_kind (unit_erased.class_kind x)
 
-class_kind_goes : (n : ℕ) (w' w : Word) (x : u.ClassKind) → w' ≡ k.word w → Goes class_made (b.class_kind n w' (bare_class x)) (b.class_kind n w x)
+class_kind_goes : (n : ℕ) (w' w : PlacedName) (x : u.ClassKind) → w' ≡ k.word w → Goes class_made (b.class_kind n w' (bare_class x)) (b.class_kind n w x)
 class_kind_goes n w' w (u.declared_class above interfaces opening members closing) h q = on_ends _ _ _ _ _ _ (superclass_goes above q) (λ m q. on_ends _ _ _ _ _ _ (clause_goes interfaces q)
     (λ m q. (λ i. b.class_members n w' (twice_mapped members i) (k.state q)) ∙ class_members_goes n w' w members h q))
 class_kind_goes n w' w (u.mixed_class equals above mixins interfaces semicolon) h q = on_ends _ _ _ _ _ _ (kept_goes above q) (λ m q. on_ends _ _ _ _ _ _ (clause_goes (Some mixins) q)

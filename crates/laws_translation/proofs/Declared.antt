@@ -18,7 +18,7 @@ use Rattle.dart_erase.specs.UnitErased as unit_erased
 use Rattle.translation.specs.Surroundings.{Text, Core}
 use Rattle.translation.specs.Walk.{Asked, unasked, Made, State, Walk, on, left_out}
 use Rattle.translation.specs.Firsts as first
-use Rattle.translation.specs.Types.{Word, word_of, asked_of_kind, result_type, is_final, is_const}
+use Rattle.translation.specs.Types.{PlacedName, word_of, asked_of_kind, result_type, is_final, is_const}
 use Rattle.translation.specs.References.{by_place, row, this, variable, own_name}
 use Rattle.translation.specs.Expressions as e
 use Rattle.translation.specs.Functions as f
@@ -171,13 +171,13 @@ static_init_goes a' a (t.given operator given) h q = on_ends _ _ _ _ _ _
     (s.initial_goes _ (first.first_of_expr given) (first.first_of_expr (lined.expr (erased.expr given))) (first.first_of_expr given) a' a (pr.expr (lined.expr (erased.expr given))) (pr.expr given) (expr_line given) h (law_expr given) q)
     (λ form q. done _ _ (c.given form) _ q (s.given_kept form) refl)
 
-static_ends : (w : Word) (a' a : Asked) (b' b : Bool) (z : t.Value) → a' ≡ k.asked a → b' ≡ b →
+static_ends : (w : PlacedName) (a' a : Asked) (b' b : Bool) (z : t.Value) → a' ≡ k.asked a → b' ≡ b →
     Goes (λ n. n) (d.static_variable (k.word w) a' b' (lined.value (erased.value z))) (d.static_variable w a b z)
 static_ends w a' a b' b z h l q = on_ends _ _ _ _ _ _ (numbered_goes q) (λ n after. outermost_goes (λ n. n) 0
     (λ q. on (d.static_init a' (lined.value (erased.value z)) q) (d.with_static n (own_name w q) b')) (λ q. on (d.static_init a z q) (d.with_static n (own_name w q) b))
     (λ q. on_ends _ _ _ _ _ _ (static_init_goes a' a z h q) (λ init q2. (λ i. d.with_static n (own_name w q) (l i) (k.part init) (k.state q2)) ∙ with_static_goes n (own_name w q) b init q2)) after)
 
-pub static_goes : (w' w : Word) (a' a : Asked) (b' b : Bool) (z : t.Value) → w' ≡ k.word w → a' ≡ k.asked a → b' ≡ b →
+pub static_goes : (w' w : PlacedName) (a' a : Asked) (b' b : Bool) (z : t.Value) → w' ≡ k.word w → a' ≡ k.asked a → b' ≡ b →
     Goes (λ n. n) (d.static_variable w' a' b' (lined.value (erased.value z))) (d.static_variable w a b z)
 static_goes w' w a' a b' b z e h l q = (λ i. d.static_variable (e i) a' b' (lined.value (erased.value z)) (k.state q)) ∙ static_ends w a' a b' b z h l q
 

@@ -27,7 +27,7 @@ use Rattle.translation.specs.Surroundings.{Text, Ty, Core, Meaning}
 use Rattle.translation.specs.Surroundings as m
 use Rattle.translation.specs.Walk.{Asked, State, Walk, went, on, bad_word}
 use Rattle.translation.specs.Strings.{Part, units, shown}
-use Rattle.translation.specs.Types.{Word, word_of, option_word, tys, Typed, well_formed, malformed, meaning_of, fitting}
+use Rattle.translation.specs.Types.{PlacedName, word_of, option_word, tys, Typed, well_formed, malformed, meaning_of, fitting}
 use Rattle.translation.specs.References as r
 use Rattle.translation.specs.References.{Arguments, by_place, Reference, evaluated, named, member, item, super_member, super_item}
 use Rattle.translation.specs.Expressions as e
@@ -368,16 +368,16 @@ creating_id s node o = ap (λ (x : e.Creating). x.id) (creating_same s node o)
 
 type_name_lined : (s : State) (node : y.TypeNode) → e.type_name (k.state s) (leaf.type_node node) ≡ e.type_name s node
 type_name_lined s (y.dynamic_type place) = refl
-type_name_lined s (y.named_type name dot given) = ap (λ (w : Word). r.own_name w s) (last_word name dot)
+type_name_lined s (y.named_type name dot given) = ap (λ (w : PlacedName). r.own_name w s) (last_word name dot)
 
 pub type_name_same : (s : State) (node' node : y.TypeNode) → node' ≡ leaf.type_node node → e.type_name (k.state s) node' ≡ e.type_name s node
 type_name_same s node' node h = ap (e.type_name (k.state s)) h ∙ type_name_lined s node
 
-id_same : (o : Option Word) (s : State) → e.id_text (option_lined o) (k.state s) ≡ e.id_text o s
+id_same : (o : Option PlacedName) (s : State) → e.id_text (option_lined o) (k.state s) ≡ e.id_text o s
 id_same None s = refl
 id_same (Some id) s = refl
 
-missing_same : (o : Option Word) (name : Text) (s : State) → e.missing_name (option_lined o) name (k.state s) ≡ e.missing_name o name s
+missing_same : (o : Option PlacedName) (name : Text) (s : State) → e.missing_name (option_lined o) name (k.state s) ≡ e.missing_name o name s
 missing_same None name s = refl
 missing_same (Some id) name s = refl
 
@@ -405,7 +405,7 @@ no_class_goes : (p' p : Place) (name : Text) (all : Arguments) → p' ≡ line p
 no_class_goes p' p name all h s = done _ _ (e.no_class p name all) _ s
     ((λ i. r.raised_behind (h i) (map k.core all.forms) MalformedTypeError name false) ∙ raised_kept p all.forms MalformedTypeError name false) refl
 
-created_ends : (p' p : Place) (of : Typed) (name : Text) (o : Option Word) (all : Arguments) → p' ≡ line p →
+created_ends : (p' p : Place) (of : Typed) (name : Text) (o : Option PlacedName) (all : Arguments) → p' ≡ line p →
     Goes k.core (e.created p' of name (option_lined o) (k.arguments all)) (e.created p of name o all)
 created_ends p' p (malformed n) name o all h s = no_class_goes p' p n all h s
 created_ends p' p (well_formed (class n ts)) name o all h s =
@@ -417,7 +417,7 @@ created_ends p' p (well_formed bottom) name o all h s = no_class_goes p' p name 
 created_ends p' p (well_formed (parameter n)) name o all h s = no_class_goes p' p name all h s
 created_ends p' p (well_formed (function result required optional names)) name o all h s = no_class_goes p' p name all h s
 
-pub created_goes : (p' p : Place) (of : Typed) (n' name : Text) (o' o : Option Word) (all : Arguments) → p' ≡ line p → n' ≡ name → o' ≡ option_lined o →
+pub created_goes : (p' p : Place) (of : Typed) (n' name : Text) (o' o : Option PlacedName) (all : Arguments) → p' ≡ line p → n' ≡ name → o' ≡ option_lined o →
     Goes k.core (e.created p' of n' o' (k.arguments all)) (e.created p of name o all)
 created_goes p' p of n' name o' o all h l d s = (λ i. e.created p' of (l i) (d i) (k.arguments all) (k.state s)) ∙ created_ends p' p of name o all h s
 

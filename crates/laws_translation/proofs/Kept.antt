@@ -7,7 +7,7 @@ use Rattle.core_program.specs.Alike as alike
 use Rattle.core_program.specs.Stripped as stripped
 use Rattle.translation.specs.Surroundings.{Text, Core, Tables}
 use Rattle.translation.specs.Walk.{Reason, left_out, not_constant, bad_label, bad_constructor, bad_switch, bad_word, too_large, Asked, Entry, Inside, Made, State, Went, Walk, went, refused}
-use Rattle.translation.specs.Types.{Word}
+use Rattle.translation.specs.Types.{PlacedName}
 use Rattle.translation.specs.References.{Arguments, Bound, local, outer, alias_behind, Reference, evaluated, named, member, item, super_member, super_item}
 pub use Rattle.core_program.specs.Alike.{line}
 
@@ -29,7 +29,7 @@ handler x = alike.handler x
 unfoldable pub case : c.Case Text → c.Case Text
 case x = alike.case x
 
-abbrev pub word : Word → Word
+abbrev pub word : PlacedName → PlacedName
 word x = record { place = line x.place; text = x.text }
 
 abbrev pub asked : Asked → Asked

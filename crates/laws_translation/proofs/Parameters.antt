@@ -17,7 +17,7 @@ use Rattle.dart_erase.specs.Erased as erased
 use Rattle.translation.specs.Surroundings.{name_in}
 use Rattle.translation.specs.Walk.{Asked, State, Walk, on, too_large, bad_word, not_constant, fresh}
 use Rattle.translation.specs.Firsts.{first_of_expr}
-use Rattle.translation.specs.Types.{Word, word_of, parameter_name, asked_of_parameter}
+use Rattle.translation.specs.Types.{PlacedName, word_of, parameter_name, asked_of_parameter}
 use Rattle.translation.specs.Statements as st
 use Rattle.translation.specs.Functions as f
 use Rattle.laws_translation.proofs.Kept as k
@@ -45,20 +45,20 @@ formal_goes : {A : Type 0} (g : A → A) (b : Bool) (place : Place) (w' w : Walk
 formal_goes g true place w' w h s = h s
 formal_goes g false place w' w h s = stop _ _ (bad_word place) refl
 
-bind_variable_goes : (b : Bool) (o : Option ThisDot) (w' w : Word) (q' q : Asked) (g' g : Bool) → w' ≡ k.word w → q' ≡ k.asked q → g' ≡ g →
+bind_variable_goes : (b : Bool) (o : Option ThisDot) (w' w : PlacedName) (q' q : Asked) (g' g : Bool) → w' ≡ k.word w → q' ≡ k.asked q → g' ≡ g →
     Goes (λ n. n) (f.bind_variable b (maybe leaf.this_dot o) w' q' g') (f.bind_variable b o w q g)
-bind_variable_goes b None w' w q' q g' g h l e s = declared_goes _ _ q' q g' g (ap (λ (x : Word). x.text) h) l e s
+bind_variable_goes b None w' w q' q g' g h l e s = declared_goes _ _ q' q g' g (ap (λ (x : PlacedName). x.text) h) l e s
 bind_variable_goes b (Some this_dot) w' w q' q g' g h l e s = formal_goes (λ n. n) b this_dot.this fresh fresh fresh_goes s
 
 counted_if_goes : {A : Type 0} (g : A → A) (b : Bool) (p' p : Place) (w' w : Walk A) → p' ≡ line p → Goes g w' w → Goes g (f.counted_if b p' w') (f.counted_if b p w)
 counted_if_goes g false p' p w' w h n s = n s
 counted_if_goes g true p' p w' w h n s = stop _ _ (too_large p) (ap too_large h)
 
-bind_tested_goes : (w' w : Word) (shape : Shape) (q' q : Asked) (x : ℕ) (default : Value) → w' ≡ k.word w → q' ≡ k.asked q →
+bind_tested_goes : (w' w : PlacedName) (shape : Shape) (q' q : Asked) (x : ℕ) (default : Value) → w' ≡ k.word w → q' ≡ k.asked q →
     Goes (λ x. x) (f.bind_tested w' shape q' x default) (f.bind_tested w shape q x default)
-bind_tested_goes w' w shape q' q x default h l s = on_ends _ _ _ _ _ _ (with_site_goes kind.Param w'.place w.place q' q (ap (λ (y : Word). y.place) h) l s)
+bind_tested_goes w' w shape q' q x default h l s = on_ends _ _ _ _ _ _ (with_site_goes kind.Param w'.place w.place q' q (ap (λ (y : PlacedName). y.place) h) l s)
     (λ site s. done _ _ (record { var = x; name = name_in s.names.library w.text; shape = shape; default = default; site = site }) _ s
-    (ap (λ (y : Word). record { var = x; name = name_in s.names.library y.text; shape = shape; default = default; site = site }) h) refl)
+    (ap (λ (y : PlacedName). record { var = x; name = name_in s.names.library y.text; shape = shape; default = default; site = site }) h) refl)
 
 pub this_same : (x : t.ParameterKind) → f.this_of (lined.parameter_kind (erased.parameter_kind x)) ≡ maybe leaf.this_dot (f.this_of x)
 unfolding lined.parameter_kind erased.parameter_kind
@@ -83,7 +83,7 @@ bind_kind_goes b outer n shape x value s = on_ends _ _ _ _ _ _
     (λ y s. counted_if_goes (λ x. x) (nat_eq n PARAMETERS) _ (word_of (parameter_name x)).place
     (λ s. on (f.default_value (lined.value (erased.value value)) s) (f.bind_tested (word_of (parameter_name (lined.parameter_kind (erased.parameter_kind x)))) shape (asked_of_parameter (k.state outer) (lined.parameter_kind (erased.parameter_kind x))) y))
     (λ s. on (f.default_value value s) (f.bind_tested (word_of (parameter_name x)) shape (asked_of_parameter outer x) y))
-    (ap (λ (w : Word). w.place) (name_word x))
+    (ap (λ (w : PlacedName). w.place) (name_word x))
     (λ s. on_ends _ _ _ _ _ _ (default_goes value s) (λ default s. bind_tested_goes _ (word_of (parameter_name x)) shape _ (asked_of_parameter outer x) y default (name_word x) (asked_parameter (k.state outer) outer x) s)) s)
 
 parameter_goes : (b : Bool) (outer : State) (n : ℕ) (shape : Shape) (x : t.Parameter) →

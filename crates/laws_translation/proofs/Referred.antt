@@ -12,7 +12,7 @@ use Rattle.core_program.specs.Core as c
 use Rattle.translation.specs.Surroundings.{Text, Ty, Core, Meaning}
 use Rattle.translation.specs.Surroundings as m
 use Rattle.translation.specs.Walk.{Asked, unasked, Entry, State, Walk, went, on, left_out, entry_of}
-use Rattle.translation.specs.Types.{Word, argument_in}
+use Rattle.translation.specs.Types.{PlacedName, argument_in}
 use Rattle.translation.specs.References as r
 use Rattle.translation.specs.References.{Arguments, by_place, Bound, local, outer, alias_behind, Reference, evaluated, named, member, item, super_member, super_item}
 use Rattle.laws_translation.proofs.Kept as k
@@ -54,7 +54,7 @@ bound_kept : (o : Option Entry) (of_this : Bool) (meaning : Meaning) → r.bound
 bound_kept None of_this meaning = refl
 bound_kept (Some e) of_this meaning = refl
 
-pub identifier_kept : (w' w : Word) (s : State) → w' ≡ k.word w → r.identifier w' (k.state s) ≡ k.reference (r.identifier w s)
+pub identifier_kept : (w' w : PlacedName) (s : State) → w' ≡ k.word w → r.identifier w' (k.state s) ≡ k.reference (r.identifier w s)
 identifier_kept w' w s e = (λ i. r.identifier (e i) (k.state s)) ∙
     (λ i. named (k.word w) (r.bound_of (entry_same s w.text i) s.inside.has_instance (s.names.meaning w.text))) ∙
     ap (named (k.word w)) (bound_kept (entry_of s w.text) s.inside.has_instance (s.names.meaning w.text))
@@ -90,7 +90,7 @@ read_outer_goes of_this place name m.member s = done _ _ (r.read_unknown of_this
 read_outer_goes of_this place name m.ambiguous s = done _ _ (r.read_unknown of_this place name) _ s (unknown_kept of_this place name) refl
 read_outer_goes of_this place name m.unknown s = done _ _ (r.read_unknown of_this place name) _ s (unknown_kept of_this place name) refl
 
-read_bound_goes : (w : Word) (b : Bound) → Goes k.core (r.read_bound (k.word w) (k.bound b)) (r.read_bound w b)
+read_bound_goes : (w : PlacedName) (b : Bound) → Goes k.core (r.read_bound (k.word w) (k.bound b)) (r.read_bound w b)
 unfolding k.core
 read_bound_goes w (local e) s = done _ _ (r.variable w.place e.variable) _ s refl refl
 read_bound_goes w (outer of_this meaning) s = read_outer_goes of_this w.place (r.own_name w s) meaning s
@@ -137,7 +137,7 @@ call_outer_goes of_this place name m.member all s = done _ _ (r.call_unknown of_
 call_outer_goes of_this place name m.ambiguous all s = done _ _ (r.call_unknown of_this place name all) _ s (call_unknown_kept of_this place name all) refl
 call_outer_goes of_this place name m.unknown all s = done _ _ (r.call_unknown of_this place name all) _ s (call_unknown_kept of_this place name all) refl
 
-call_bound_goes : (w : Word) (b : Bound) (all : Arguments) → Goes k.core (r.call_bound (k.word w) (k.bound b) (k.arguments all)) (r.call_bound w b all)
+call_bound_goes : (w : PlacedName) (b : Bound) (all : Arguments) → Goes k.core (r.call_bound (k.word w) (k.bound b) (k.arguments all)) (r.call_bound w b all)
 unfolding k.core
 call_bound_goes w (local e) all s = done _ _ (r.apply w.place (r.variable w.place e.variable) all) _ s (apply_kept w.place (r.variable w.place e.variable) all) refl
 call_bound_goes w (outer of_this meaning) all s = call_outer_goes of_this w.place (r.own_name w s) meaning all s
@@ -156,7 +156,7 @@ called_ends place (super_item index) all s = done _ _ (r.apply place (r.row plac
 pub called_goes : (p' p : Place) (x : Reference) (all : Arguments) → p' ≡ line p → Goes k.core (r.called p' (k.reference x) (k.arguments all)) (r.called p x all)
 called_goes p' p x all e s = (λ i. r.called (e i) (k.reference x) (k.arguments all) (k.state s)) ∙ called_ends p x all s
 
-no_alias_goes : (w : Word) (b : Bound) (x : Reference) → Goes k.reference (r.no_alias_at (k.word w) (k.bound b) (k.reference x)) (r.no_alias_at w b x)
+no_alias_goes : (w : PlacedName) (b : Bound) (x : Reference) → Goes k.reference (r.no_alias_at (k.word w) (k.bound b) (k.reference x)) (r.no_alias_at w b x)
 no_alias_goes w (local e) x s = done _ _ x _ s refl refl
 no_alias_goes w (outer of_this (m.alias n)) x s = stop _ _ (left_out w.place FunctionTypes) refl
 no_alias_goes w (alias_behind at) x s = stop _ _ (left_out at FunctionTypes) refl
@@ -178,7 +178,7 @@ callable_goes (item form index) s = done _ _ (item form index) _ s refl refl
 callable_goes (super_member name) s = done _ _ (super_member name) _ s refl refl
 callable_goes (super_item index) s = done _ _ (super_item index) _ s refl refl
 
-read_first : (place : Place) (w f : Word) (b : Bound) (s : State) →
+read_first : (place : Place) (w f : PlacedName) (b : Bound) (s : State) →
     on (r.read_bound (k.word f) (k.bound b) (k.state s)) (λ form st. went (member form (r.own_name (k.word w) st)) st) ≡
     ends k.reference (on (r.read_bound f b s) (λ form st. went (member form (r.own_name w st)) st))
 read_first place w f b s = on_ends _ _ _ _ _ _ (read_bound_goes f b s) (λ form s. done _ _ (member form (r.own_name w s)) _ s refl refl)
@@ -195,7 +195,7 @@ behind_kept at m.prefix = refl
 behind_kept at m.ambiguous = refl
 behind_kept at m.unknown = refl
 
-behind_goes : (place : Place) (w f : Word) (b : Bound) → Goes k.reference (r.member_behind (line place) (k.word w) (k.word f) (k.bound b)) (r.member_behind place w f b)
+behind_goes : (place : Place) (w f : PlacedName) (b : Bound) → Goes k.reference (r.member_behind (line place) (k.word w) (k.word f) (k.bound b)) (r.member_behind place w f b)
 behind_goes place w f (local e) s = read_first place w f (local e) s
 behind_goes place w f (outer of_this (m.class n)) s = done _ _ (named (record { place = place; text = w.text }) (outer false (s.tables.static n (r.own_name w s)))) _ s refl refl
 behind_goes place w f (outer of_this m.prefix) s = done _ _ (named (record { place = place; text = w.text }) (r.behind w.place (s.names.prefixed f.text w.text))) _ s
@@ -210,7 +210,7 @@ behind_goes place w f (outer of_this m.member) s = read_first place w f (outer o
 behind_goes place w f (outer of_this m.ambiguous) s = read_first place w f (outer of_this m.ambiguous) s
 behind_goes place w f (outer of_this m.unknown) s = read_first place w f (outer of_this m.unknown) s
 
-member_ends : (place : Place) (w : Word) (x : Reference) → Goes k.reference (r.member_of (line place) (k.word w) (k.reference x)) (r.member_of place w x)
+member_ends : (place : Place) (w : PlacedName) (x : Reference) → Goes k.reference (r.member_of (line place) (k.word w) (k.reference x)) (r.member_of place w x)
 member_ends place w (named f b) s = behind_goes place w f b s
 member_ends place w (evaluated form) s = on_ends _ _ _ _ _ _ (read_ends place (evaluated form) s) (λ form s. done _ _ (member form (r.own_name w s)) _ s refl refl)
 member_ends place w (member form name) s = on_ends _ _ _ _ _ _ (read_ends place (member form name) s) (λ form s. done _ _ (member form (r.own_name w s)) _ s refl refl)
@@ -218,7 +218,7 @@ member_ends place w (item form index) s = on_ends _ _ _ _ _ _ (read_ends place (
 member_ends place w (super_member name) s = on_ends _ _ _ _ _ _ (read_ends place (super_member name) s) (λ form s. done _ _ (member form (r.own_name w s)) _ s refl refl)
 member_ends place w (super_item index) s = on_ends _ _ _ _ _ _ (read_ends place (super_item index) s) (λ form s. done _ _ (member form (r.own_name w s)) _ s refl refl)
 
-pub member_goes : (p' p : Place) (w' w : Word) (x : Reference) → p' ≡ line p → w' ≡ k.word w → Goes k.reference (r.member_of p' w' (k.reference x)) (r.member_of p w x)
+pub member_goes : (p' p : Place) (w' w : PlacedName) (x : Reference) → p' ≡ line p → w' ≡ k.word w → Goes k.reference (r.member_of p' w' (k.reference x)) (r.member_of p w x)
 member_goes p' p w' w x e h s = (λ i. r.member_of (e i) (h i) (k.reference x) (k.state s)) ∙ member_ends p w x s
 
 -- ---- writing
@@ -268,7 +268,7 @@ write_outer_goes of_this place at name m.member form s = done _ _ (r.write_unkno
 write_outer_goes of_this place at name m.ambiguous form s = done _ _ (r.write_unknown of_this place name form) _ s (write_unknown_kept of_this place name form) refl
 write_outer_goes of_this place at name m.unknown form s = done _ _ (r.write_unknown of_this place name form) _ s (write_unknown_kept of_this place name form) refl
 
-write_bound_goes : (place at : Place) (w : Word) (b : Bound) (form : Core) → Goes k.core (r.write_bound (line place) (line at) (k.word w) (k.bound b) (k.core form)) (r.write_bound place at w b form)
+write_bound_goes : (place at : Place) (w : PlacedName) (b : Bound) (form : Core) → Goes k.core (r.write_bound (line place) (line at) (k.word w) (k.bound b) (k.core form)) (r.write_bound place at w b form)
 write_bound_goes place at w (local e) form s = write_if_goes e.is_final (c.write e.variable) place at (r.own_name w s) e.asked form s
 write_bound_goes place at w (outer of_this meaning) form s = write_outer_goes of_this place at (r.own_name w s) meaning form s
 write_bound_goes place at w (alias_behind _) form s = done _ _ (r.unwritable place form (r.own_name w s)) _ s (unwritable_kept place form (r.own_name w s)) refl

@@ -32,7 +32,7 @@ use Rattle.translation.specs.Surroundings.{Text, Core}
 use Rattle.translation.specs.Walk.{Asked, unasked, a_loop, a_switch, another, State, Went, Walk, went, on, bad_label, bad_switch, bad_constructor, bad_word, place_of_core, tested, declared, scoped, targeted}
 use Rattle.translation.specs.Strings.{constant_units, also, no_value, units_alone, parts_of}
 use Rattle.translation.specs.Firsts.{first_of_expr}
-use Rattle.translation.specs.Types.{Word, Typed, well_formed, malformed}
+use Rattle.translation.specs.Types.{PlacedName, Typed, well_formed, malformed}
 use Rattle.translation.specs.References as r
 use Rattle.translation.specs.References.{by_place}
 use Rattle.translation.specs.Statements as st
@@ -223,16 +223,16 @@ for_goes labels p i' i w' w u' u b' b h l m n s = scoped_goes (map k.core)
     (λ body after. done _ _ (r.block p (forms ++ for_loop p (length s.targets) forms test steps body ∷ []) ∷ []) _ after
     (ap (λ (x : Core). x ∷ []) (for_kept p (length s.targets) forms test steps body)) refl)))) after))) s
 
-next_variable_goes : (p : Place) (w' w : Word) (q' q : Asked) (b : Bool) (form : Core) → w' ≡ k.word w → q' ≡ k.asked q →
+next_variable_goes : (p : Place) (w' w : PlacedName) (q' q : Asked) (b : Bool) (form : Core) → w' ≡ k.word w → q' ≡ k.asked q →
     Goes k.core (st.next_variable (line p) w' q' b (k.core form)) (st.next_variable p w q b form)
 unfolding k.core
-next_variable_goes p w' w q' q b form e d s = on_ends _ _ _ _ _ _ (checked_goes kind.VarInit w'.place w.place q' q form (ap (λ (x : Word). x.place) e) d s)
-    (λ form s. on_ends _ _ _ _ _ _ (declared_goes _ _ q' q b b (ap (λ (x : Word). x.text) e) d refl s) (λ x s. done _ _ (c.at p (c.unary (c.var x) form)) _ s refl refl))
+next_variable_goes p w' w q' q b form e d s = on_ends _ _ _ _ _ _ (checked_goes kind.VarInit w'.place w.place q' q form (ap (λ (x : PlacedName). x.place) e) d s)
+    (λ form s. on_ends _ _ _ _ _ _ (declared_goes _ _ q' q b b (ap (λ (x : PlacedName). x.text) e) d refl s) (λ x s. done _ _ (c.at p (c.unary (c.var x) form)) _ s refl refl))
 
-next_assigned_goes : (p : Place) (w' w : Word) (form : Core) → w' ≡ k.word w → Goes k.core (st.next_assigned (line p) w' (k.core form)) (st.next_assigned p w form)
-next_assigned_goes p w' w form e s = write_goes _ p _ w.place _ (r.identifier w s) form refl (ap (λ (x : Word). x.place) e) (identifier_kept w' w s e) s
+next_assigned_goes : (p : Place) (w' w : PlacedName) (form : Core) → w' ≡ k.word w → Goes k.core (st.next_assigned (line p) w' (k.core form)) (st.next_assigned p w form)
+next_assigned_goes p w' w form e s = write_goes _ p _ w.place _ (r.identifier w s) form refl (ap (λ (x : PlacedName). x.place) e) (identifier_kept w' w s e) s
 
-pub next_goes : (p : Place) (name : Identifier) (w' w : Word) (q' q : Asked) (x : y.VariableKind) (form : Core) → w' ≡ k.word w → q' ≡ k.asked q →
+pub next_goes : (p : Place) (name : Identifier) (w' w : PlacedName) (q' q : Asked) (x : y.VariableKind) (form : Core) → w' ≡ k.word w → q' ≡ k.asked q →
     Goes k.core (st.next (line p) w' q' (leaf.variable_kind (erased.variable_kind name x)) (k.core form)) (st.next p w q x form)
 next_goes p name w' w q' q y.no_kind form e d s = next_assigned_goes p w' w form e s
 next_goes p name w' w q' q (y.var_kind at) form e d s = next_variable_goes p w' w q' q false form e d s

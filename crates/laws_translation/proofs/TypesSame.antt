@@ -21,7 +21,7 @@ use Rattle.translation.specs.Surroundings.{Text, Ty, Meaning, name_in}
 use Rattle.translation.specs.Surroundings as m
 use Rattle.translation.specs.Walk.{Entry, State, left_out, entry_of}
 use Rattle.translation.specs.Types as ty
-use Rattle.translation.specs.Types.{Word, word_of, option_word, last_of, Typed, well_formed, malformed}
+use Rattle.translation.specs.Types.{PlacedName, word_of, option_word, last_of, Typed, well_formed, malformed}
 use Rattle.laws_translation.proofs.Kept as k
 use Rattle.laws_translation.proofs.Kept.{line, Goes, ends}
 use Rattle.laws_translation.proofs.Ends.{done, stop, option_entry, entry_same}
@@ -38,7 +38,7 @@ text_same (i.Name place text) = refl
 text_same (i.Get place) = refl
 text_same (i.Set place) = refl
 
-abbrev pub option_lined : Option Word → Option Word
+abbrev pub option_lined : Option PlacedName → Option PlacedName
 option_lined None = None
 option_lined (Some x) = Some (k.word x)
 
@@ -46,7 +46,7 @@ pub option_same : (x : Option DotName) → option_word (maybe leaf.dot_name x) �
 option_same None = refl
 option_same (Some x) = ap Some (word_same x.name)
 
-pub last_same : (x : Word) (o : Option Word) → last_of (k.word x) (option_lined o) ≡ k.word (last_of x o)
+pub last_same : (x : PlacedName) (o : Option PlacedName) → last_of (k.word x) (option_lined o) ≡ k.word (last_of x o)
 last_same x None = refl
 last_same x (Some o) = refl
 
@@ -59,7 +59,7 @@ outside_same (Some e) meaning = refl
 pub meaning_same : (s : State) (name : Text) → ty.meaning_of (k.state s) name ≡ ty.meaning_of s name
 meaning_same s name = ap (λ (e : Option Entry). ty.outside e (s.names.meaning name)) (entry_same s name) ∙ outside_same (entry_of s name) (s.names.meaning name)
 
-type_meaning_same : (s : State) (x : Word) (o : Option Word) → ty.type_meaning (k.state s) (k.word x) (option_lined o) ≡ ty.type_meaning s x o
+type_meaning_same : (s : State) (x : PlacedName) (o : Option PlacedName) → ty.type_meaning (k.state s) (k.word x) (option_lined o) ≡ ty.type_meaning s x o
 type_meaning_same s x None = meaning_same s x.text
 type_meaning_same s x (Some o) = ap (λ (m : Meaning). ty.behind_prefix m (s.names.prefixed x.text o.text)) (meaning_same s x.text)
 

@@ -30,13 +30,13 @@ use lower_leaf::state::{Asked, State, clone_asked};
 use lower_leaf::surroundings::Surroundings;
 use lower_leaf::types::{asked_of_kind, is_final};
 use lower_reference::plain::raised_behind;
-use lower_reference::reference::{Word, word_of};
+use lower_reference::reference::{PlacedName, word_of};
 use std::alloc::Global;
 
 /// A field that a class declares, counted from `Object`'s end of the chain.
 #[derive(Drop)]
 pub struct Field {
-    pub name: Word,
+    pub name: PlacedName,
     pub index: u32,
     pub wanted: Asked,
     pub is_final: bool,

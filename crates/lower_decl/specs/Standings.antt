@@ -97,6 +97,6 @@ with_static n name is_final init st =
     record st { statics = st.statics ++ record { number = n; made = d.static_made name is_final st init } ∷ [] }
 
 -- the initialiser of a variable, and the variable
-abbrev pub static_made : y.Word → w.Asked → Bool → t.Value → ℕ → w.Walk ℕ
+abbrev pub static_made : y.PlacedName → w.Asked → Bool → t.Value → ℕ → w.Walk ℕ
 static_made name asked is_final value n st =
     w.on (d.static_init asked value st) (d.with_static n (own_name name st) is_final)

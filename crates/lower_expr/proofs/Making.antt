@@ -10,7 +10,7 @@ use Rattle.translation.specs.Expressions as e
 use Rattle.translation.specs.Firsts.{place_of_creation}
 use Rattle.translation.specs.Productions as low
 use Rattle.translation.specs.References.{Arguments, Reference}
-use Rattle.translation.specs.Types.{Typed, Word, kept_type}
+use Rattle.translation.specs.Types.{Typed, PlacedName, kept_type}
 use Rattle.translation.specs.Walk as w
 use Rattle.lower_operand.proofs.Creating.{creating_met, type_name_met}
 
@@ -47,7 +47,7 @@ new_argued creation of constructor given st typed kept =
     (created_behind creation typed (e.creating st of constructor) (e.type_name st (e.creating st of constructor).node)))) kept
 
 pub new_created : (creation : Creation) (of : y.TypeNode) (constructor : Option DotName) (given : t.Arguments) (st st2 : w.State) (typed : Typed)
-    (all : Arguments) (place : Place) (name : Text) (id : Option Word) →
+    (all : Arguments) (place : Place) (name : Text) (id : Option PlacedName) →
     kept_type (e.creating st of constructor).node st ≡ w.went typed st → low.arguments given st ≡ w.went all st2 →
     place ≡ place_of_creation creation → name ≡ e.type_name st (e.creating st of constructor).node → id ≡ (e.creating st of constructor).id →
     new_in creation of constructor given st ≡ e.as_value (e.created place typed name id all) st2
@@ -57,4 +57,4 @@ new_created creation of constructor given st st2 typed all place name id kept ar
     ∙ ap (λ (walk : w.Went Arguments). w.on walk (created_behind creation typed (e.creating st of constructor) (e.type_name st (e.creating st of constructor).node))) argued
     ∙ ap (λ (p : Place). e.as_value (e.created p typed (e.type_name st (e.creating st of constructor).node) (e.creating st of constructor).id all) st2) (sym placed)
     ∙ ap (λ (n : Text). e.as_value (e.created place typed n (e.creating st of constructor).id all) st2) (sym named)
-    ∙ ap (λ (i : Option Word). e.as_value (e.created place typed name i all) st2) (sym identified)
+    ∙ ap (λ (i : Option PlacedName). e.as_value (e.created place typed name i all) st2) (sym identified)

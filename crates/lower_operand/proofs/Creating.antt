@@ -9,7 +9,7 @@ use Rattle.translation.specs.Types as y
 use Rattle.translation.specs.Walk as w
 use Rattle.lower_operand.specs.Made.{is_class, is_dotted}
 
-pub creating_as_class : (x : m.Meaning) (node of : t.TypeNode) (id : y.Word) → is_class x ≡ true → e.creating_as x node of id ≡ record { node = of; id = Some id }
+pub creating_as_class : (x : m.Meaning) (node of : t.TypeNode) (id : y.PlacedName) → is_class x ≡ true → e.creating_as x node of id ≡ record { node = of; id = Some id }
 creating_as_class (m.function n) node of id h = refl
 creating_as_class (m.variable n f) node of id h = refl
 creating_as_class (m.accessors g s) node of id h = refl
@@ -25,7 +25,7 @@ pub listed_types : (xs : List m.Ty) → e.listed (y.tys xs) ≡ xs
 listed_types [] = refl
 listed_types (x ∷ xs) = ap (λ (rest : List m.Ty). x ∷ rest) (listed_types xs)
 
-pub creating_as_prefix : (x : m.Meaning) (node of : t.TypeNode) (id : y.Word) → is_class x ≡ false → e.creating_as x node of id ≡ record { node = node; id = None }
+pub creating_as_prefix : (x : m.Meaning) (node of : t.TypeNode) (id : y.PlacedName) → is_class x ≡ false → e.creating_as x node of id ≡ record { node = node; id = None }
 creating_as_prefix m.prefix node of id h = refl
 creating_as_prefix (m.function n) node of id h = absurd (true≢false h)
 creating_as_prefix (m.variable n f) node of id h = absurd (true≢false h)

@@ -23,7 +23,7 @@ all_forms a forms = cores a forms.items
 abbrev pub joined : Around → Joined → e.Joined
 joined a x = record { forms = cores a x.forms.items; pending = x.pending }
 
-abbrev pub word_option : Option (Bor Identifier) → Option y.Word
+abbrev pub word_option : Option (Bor Identifier) → Option y.PlacedName
 word_option None = None
 word_option (Some name) = Some (y.word_of name.now)
 

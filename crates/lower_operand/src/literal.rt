@@ -30,7 +30,7 @@ use lower_leaf::surroundings::Surroundings;
 use lower_leaf::types::fitting;
 use lower_reference::plain::{constant, no_operands, send, two_operands};
 use lower_reference::read::read;
-use lower_reference::reference::{Reference, Word, identifier, word_of};
+use lower_reference::reference::{PlacedName, Reference, identifier, word_of};
 use lower_string::integer::integer;
 use lower_string::part::StringPart;
 use std::alloc::Global;
@@ -118,7 +118,7 @@ pub fn shown_form<S: Surroundings>(
     if name == b"this".as_slice() {
         return this_form(outside, state, place);
     }
-    let word = Word {
+    let word = PlacedName {
         place,
         text: Bytes::from_slice(alloc, name)?,
     };

@@ -11,7 +11,7 @@ ghost use Rattle.lower_reference.specs.Referred.{word, bound, reference};
 
 use crate::plain::{apply, call, no_operands, raised_behind, send, super_call, this, variable};
 use crate::read::{class_value, item, super_item};
-use crate::reference::{Bound, Reference, Word, name_of};
+use crate::reference::{Bound, PlacedName, Reference, name_of};
 use core_program::form::{Core, Leaf};
 use dart_base::feature::Feature;
 use dart_base::place::Place;
@@ -208,7 +208,7 @@ fn call_bound<S: Surroundings>(
     alloc: Global,
     outside: &S,
     state: &State,
-    name: &Word,
+    name: &PlacedName,
     of: &Bound,
     operands: Operands,
 ) -> Result<Core, LowerFault>

@@ -14,7 +14,7 @@ ghost use Rattle.lower_reference.specs.Referred.{word, bound, reference};
 use crate::plain::{
     call, constant, no_operands, one_operand, raise, send, super_call, this, variable,
 };
-use crate::reference::{Bound, Reference, Word, name_of};
+use crate::reference::{Bound, PlacedName, Reference, name_of};
 use core_program::form::{Core, Leaf, Unary};
 use dart_base::feature::Feature;
 use dart_base::name::Name;
@@ -196,7 +196,7 @@ pub fn read_bound<S: Surroundings>(
     alloc: Global,
     outside: &S,
     state: &State,
-    name: &Word,
+    name: &PlacedName,
     of: &Bound,
 ) -> Result<Core, LowerFault>
     ensures { Gives (core (S.around outside.now)) result (seen (S.around outside.now) state.now)

@@ -23,7 +23,7 @@ use std::rc::Rc;
 
 /// An identifier at its place.
 #[derive(Drop)]
-pub struct Word {
+pub struct PlacedName {
     pub place: Place,
     pub text: Bytes,
 }
@@ -44,7 +44,7 @@ pub enum Bound {
 pub enum Reference {
     /// A value, which isn't assignable.
     Evaluated(Core),
-    Named(Word, Bound),
+    Named(PlacedName, Bound),
     /// `e.n`
     Member(Core, Name),
     /// `e[i]`
@@ -56,10 +56,10 @@ pub enum Reference {
 }
 
 /// An identifier at its place.
-pub fn word_of(alloc: Global, name: &Identifier) -> Result<Word, Want>
+pub fn word_of(alloc: Global, name: &Identifier) -> Result<PlacedName, Want>
     ensures { IfOk result (λ made. word made ≡ y.word_of name.now) }
 {
-    Ok(Word {
+    Ok(PlacedName {
         place: place_of(name),
         text: Bytes::from_slice(alloc, text_of(name))?,
     })
@@ -69,7 +69,7 @@ pub fn word_of(alloc: Global, name: &Identifier) -> Result<Word, Want>
 pub fn identifier<S: Surroundings>(
     outside: &S,
     state: &State,
-    name: Word,
+    name: PlacedName,
 ) -> Result<Reference, Want>
     ensures { IfOk result (λ made. reference (S.around outside.now) made
         ≡ r.identifier (word name) (seen (S.around outside.now) state.now)) }
@@ -128,7 +128,7 @@ pub fn clone_reference<S: Surroundings>(
     match of {
         Reference::Evaluated(form) => Ok(Reference::Evaluated(clone_core(alloc, outside, form)?)),
         Reference::Named(name, bound) => {
-            let name = Word {
+            let name = PlacedName {
                 place: name.place,
                 text: Bytes::from_slice(alloc, name.text.as_slice())?,
             };

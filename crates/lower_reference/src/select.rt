@@ -9,7 +9,7 @@ ghost use Rattle.lower_leaf.specs.Seen.{seen};
 ghost use Rattle.lower_reference.specs.Referred.{word, bound, reference, member_read, reference_read};
 
 use crate::read::{read, read_bound};
-use crate::reference::{Bound, Reference, Word, name_of};
+use crate::reference::{Bound, PlacedName, Reference, name_of};
 use core_program::form::Core;
 use dart_base::bytes::Bytes;
 use dart_base::feature::Feature;
@@ -27,7 +27,7 @@ use std::alloc::Global;
 fn no_alias_at<S: Surroundings>(
     outside: &S,
     state: &State,
-    name: Word,
+    name: PlacedName,
     of_this: bool,
     of: Meaning,
 ) -> Result<Reference, LowerFault>
@@ -100,7 +100,7 @@ fn outer_member<S: Surroundings>(
     ensures { IfOk result (λ made. reference (S.around outside.now) made
         ≡ r.named (record { place = place; text = y.text_of name.now }) (bound (S.around outside.now) of)) }
 {
-    let word = Word {
+    let word = PlacedName {
         place,
         text: Bytes::from_slice(alloc, text_of(name))?,
     };
@@ -145,7 +145,7 @@ fn value_member<S: Surroundings>(
     outside: &S,
     state: &State,
     name: &Identifier,
-    first: &Word,
+    first: &PlacedName,
     of: &Bound,
 ) -> Result<Reference, LowerFault>
     ensures { Gives (reference (S.around outside.now)) result (seen (S.around outside.now) state.now)
@@ -162,7 +162,7 @@ fn member_behind<S: Surroundings>(
     state: &State,
     place: Place,
     name: &Identifier,
-    first: &Word,
+    first: &PlacedName,
     of: &Bound,
 ) -> Result<Reference, LowerFault>
     ensures { Gives (reference (S.around outside.now)) result (seen (S.around outside.now) state.now)

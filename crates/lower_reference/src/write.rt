@@ -12,7 +12,7 @@ ghost use Rattle.lower_reference.specs.Referred.{word, bound, reference};
 
 use crate::call::refused_call;
 use crate::plain::{call, one_operand, send, super_call, this, two_operands, variable};
-use crate::reference::{Bound, Reference, Word, name_of};
+use crate::reference::{Bound, PlacedName, Reference, name_of};
 use core_program::form::{Binary, Core, Unary};
 use dart_base::name::Name;
 use dart_base::place::Place;
@@ -245,7 +245,7 @@ fn write_bound<S: Surroundings>(
     state: &mut State,
     place: Place,
     at: Place,
-    name: &Word,
+    name: &PlacedName,
     of: &Bound,
     form: Core,
 ) -> Result<Core, LowerFault>

@@ -97,13 +97,13 @@ turned place number x form test around walk = alone_behind (let_behind place x f
     (w.on walk (λ body after. w.went (s.loop place number [] (c.given test) c.missing (c.given body)) after))))
 
 -- the loop, from where its variable is numbered
-abbrev in_loop : List Text → Place → Place → y.Word → w.Asked → ty.VariableKind → w.Walk (List Core) → ℕ → Core → w.Went ℕ → w.Went (List Core)
+abbrev in_loop : List Text → Place → Place → y.PlacedName → w.Asked → ty.VariableKind → w.Walk (List Core) → ℕ → Core → w.Went ℕ → w.Went (List Core)
 in_loop labels place at name asked of body number form walk = alone_behind (w.on walk (λ x after. let_behind place x form (left_behind after
     (w.on (move place at x (with_target (record { labels = labels; kind = w.a_loop }) after))
     (behind_test place number (turn place (s.next place name asked of) body (r.variable place x)))))))
 
 -- from where the first turn begins
-pub for_in_from : (labels : List Text) (place at at2 : Place) (operand : w.Walk Core) (name : y.Word) (of : ty.VariableKind) (body : w.Walk (List Core))
+pub for_in_from : (labels : List Text) (place at at2 : Place) (operand : w.Walk Core) (name : y.PlacedName) (of : ty.VariableKind) (body : w.Walk (List Core))
     (st st1 st2 st3 st4 : w.State) (form test : Core) (x : ℕ) (asked : w.Asked) → at2 ≡ at → asked ≡ y.asked_of_kind st of →
     operand st ≡ w.went form st1 → w.fresh st1 ≡ w.went x st2 → st3 ≡ with_target (record { labels = labels; kind = w.a_loop }) st2 →
     move place at2 x st3 ≡ w.went test st4 →
@@ -121,7 +121,7 @@ for_in_from labels place at at2 operand name of body st st1 st2 st3 st4 form tes
     ∙ ap (λ (q : w.Went Core). alone_behind (let_behind place x form (left_behind st2 (w.on q (behind_test place n turns))))) e4
 
 -- to where it ends
-pub for_in_made : (labels : List Text) (place at at2 : Place) (operand : w.Walk Core) (name : y.Word) (of : ty.VariableKind) (body : w.Walk (List Core))
+pub for_in_made : (labels : List Text) (place at at2 : Place) (operand : w.Walk Core) (name : y.PlacedName) (of : ty.VariableKind) (body : w.Walk (List Core))
     (st st1 st2 st3 st4 st5 end : w.State) (form test inner built : Core) (x number depth : ℕ) (asked : w.Asked) (made : List Core) → at2 ≡ at → asked ≡ y.asked_of_kind st of →
     operand st ≡ w.went form st1 → w.fresh st1 ≡ w.went x st2 → st3 ≡ with_target (record { labels = labels; kind = w.a_loop }) st2 →
     move place at2 x st3 ≡ w.went test st4 → turn place (s.next place name asked of) body (r.variable place x) st4 ≡ w.went inner st5 →

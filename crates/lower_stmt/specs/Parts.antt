@@ -27,7 +27,7 @@ abbrev pub for_in_core : Place → ℕ → ℕ → Core → Core → Core → Co
 for_in_core place number t form test body =
     c.at place (c.let_in t (s.get place form (codes "iterator")) (s.loop place number [] (c.given test) c.missing (c.given body)))
 
-abbrev pub for_in : List Text → Place → Place → w.Walk Core → y.Word → ty.VariableKind → w.Walk (List Core) → w.Walk (List Core)
+abbrev pub for_in : List Text → Place → Place → w.Walk Core → y.PlacedName → ty.VariableKind → w.Walk (List Core) → w.Walk (List Core)
 for_in labels place at iterated name kind body st =
     s.for_in_form labels place at iterated (s.next place name (y.asked_of_kind st kind) kind) body st
 

@@ -16,7 +16,7 @@ use Rattle.core_program.specs.Program as p
 use Rattle.translation.specs.Surroundings.{Text, Ty, Core, Names, Meaning}
 use Rattle.translation.specs.Surroundings as m
 use Rattle.translation.specs.Walk.{Asked, unasked, Made, State, Walk, went, on, checked, with_site}
-use Rattle.translation.specs.Types.{Word, word_of, text_of, type_asked, kept_type}
+use Rattle.translation.specs.Types.{PlacedName, word_of, text_of, type_asked, kept_type}
 use Rattle.translation.specs.References.{block, variable, own_name}
 use Rattle.translation.specs.Functions as f
 use Rattle.translation.specs.Declarations.{standing_in}
@@ -59,7 +59,7 @@ superclass_kept (Some x) st = on (kept x.superclass st) (λ n st. clause_kept x.
 pub record ClassMade : Type 0 where
   pub class : ℕ
   pub names : Names
-  pub name : Word
+  pub name : PlacedName
   pub members : List u.Member
   pub fields : List Field
   pub values : List Core
@@ -117,7 +117,7 @@ around_in n arguments name members st = counting (around_of n arguments name mem
 abbrev pub generated : Draft → Generated
 generated x = record { number = x.head.number; id = x.id; parameters = x.parameters }
 
-abbrev pub class_made : Around → Word → List u.Member → Parts → Walk ClassMade
+abbrev pub class_made : Around → PlacedName → List u.Member → Parts → Walk ClassMade
 class_made around name members parts st = went (record {
   class = around.class;
   names = st.names;
@@ -130,15 +130,15 @@ class_made around name members parts st = went (record {
   constructors = map generated parts.drafts;
 }) (with_drafts parts.values parts.drafts st)
 
-abbrev pub members_made : Around → Word → List u.Member → Walk ClassMade
+abbrev pub members_made : Around → PlacedName → List u.Member → Walk ClassMade
 members_made around name members st = on (cl.all_members around members members st) (class_made around name members)
 
 -- the members, where the superclass has the constructor that is called where none is written
-abbrev pub class_members : ℕ → Word → List u.Member → Walk ClassMade
+abbrev pub class_members : ℕ → PlacedName → List u.Member → Walk ClassMade
 class_members n name members st = members_made (around_in n None name.text members st) name members st
 
 -- a class that is written as a mixin application: it declares nothing, a constructor neither
-abbrev pub without_members : ℕ → Word → Walk ClassMade
+abbrev pub without_members : ℕ → PlacedName → Walk ClassMade
 without_members n name st = went (record {
   class = n;
   names = st.names;
@@ -151,7 +151,7 @@ without_members n name st = went (record {
   constructors = [];
 }) st
 
-abbrev pub class_kind : ℕ → Word → u.ClassKind → Walk ClassMade
+abbrev pub class_kind : ℕ → PlacedName → u.ClassKind → Walk ClassMade
 class_kind n name (u.declared_class above interfaces opening members closing) st =
     on (superclass_kept above st) (λ k st. on (clause_kept interfaces st) (λ k st. class_members n name members st))
 class_kind n name (u.mixed_class equals above mixins interfaces semicolon) st =

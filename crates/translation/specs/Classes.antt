@@ -28,7 +28,7 @@ use Rattle.translation.specs.Surroundings.{Text, Ty, Core}
 use Rattle.translation.specs.Surroundings as m
 use Rattle.translation.specs.Walk.{Asked, unasked, Inside, State, Went, Walk, went, refused, on, left_out, bad_constructor, checked, scoped}
 use Rattle.translation.specs.Firsts as first
-use Rattle.translation.specs.Types.{Word, word_of, text_of, tys, asked_of_kind, is_const, function_type, is_final, parameter_name}
+use Rattle.translation.specs.Types.{PlacedName, word_of, text_of, tys, asked_of_kind, is_const, function_type, is_final, parameter_name}
 use Rattle.translation.specs.References.{Arguments, row, variable, raised_behind}
 use Rattle.translation.specs.Expressions as e
 use Rattle.translation.specs.Functions as f
@@ -39,7 +39,7 @@ use Rattle.translation.specs.Declarations.{Standing, Declared, static_standing, 
 
 -- a field that the class declares, counted from Object's end of the chain
 pub record Field : Type 0 where
-  pub name : Word
+  pub name : PlacedName
   pub index : ℕ
   pub asked : Asked
   pub is_final : Bool
@@ -415,7 +415,7 @@ abbrev pub operator_text : Sign → Bool → Text
 operator_text sg.Minus true = codes "unary-"
 operator_text sign without_parameters = sign_text sign
 
-abbrev pub operator_word : OperatorName → Bool → Word
+abbrev pub operator_word : OperatorName → Bool → PlacedName
 operator_word (op.Sign place sign) without_parameters = record { place = place; text = operator_text sign without_parameters }
 operator_word (op.ShiftRight first second) without_parameters = record { place = first; text = codes ">>" }
 operator_word (op.Index opening closing) without_parameters = record { place = opening; text = codes "[]" }

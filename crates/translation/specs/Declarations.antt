@@ -14,7 +14,7 @@ use Rattle.core_program.specs.Program as p
 use Rattle.translation.specs.Surroundings.{Text, Ty, Core}
 use Rattle.translation.specs.Walk.{Asked, unasked, Inside, Made, State, Walk, went, refused, on, within, left_out}
 use Rattle.translation.specs.Firsts as first
-use Rattle.translation.specs.Types.{Word, word_of, asked_of_kind, asked_of_result, function_type, result_type, is_final, is_const}
+use Rattle.translation.specs.Types.{PlacedName, word_of, asked_of_kind, asked_of_result, function_type, result_type, is_final, is_const}
 use Rattle.translation.specs.References.{by_place, row, this, variable, own_name}
 use Rattle.translation.specs.Expressions as e
 use Rattle.translation.specs.Statements as s
@@ -92,7 +92,7 @@ unless_external (Some place) None walk st = refused (left_out place External)
 -- a declared function with its parameters and body
 pub record Declared : Type 0 where
   pub external : Option Place
-  pub name : Word
+  pub name : PlacedName
   pub result : Option y.ResultType
   pub parameters : t.Parameters
   pub body : t.Body
@@ -153,7 +153,7 @@ static_init asked t.omitted st = went c.missing st
 static_init asked (t.given operator given) st =
     on (s.initial (first.first_of_expr given) (first.first_of_expr given) asked (pr.expr given) st) (λ form st. went (c.given form) st)
 
-abbrev pub static_variable : Word → Asked → Bool → t.Value → Walk ℕ
+abbrev pub static_variable : PlacedName → Asked → Bool → t.Value → Walk ℕ
 static_variable name asked is_final value st = on (f.numbered st) (λ n after. outermost 0 (λ st.
     on (static_init asked value st) (with_static n (own_name name st) is_final)) after)
 

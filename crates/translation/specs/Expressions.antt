@@ -26,7 +26,7 @@ use Rattle.translation.specs.Surroundings.{Text, Ty, Core, Meaning}
 use Rattle.translation.specs.Surroundings as m
 use Rattle.translation.specs.Walk.{Asked, unasked, State, Walk, went, refused, on, bad_word, checked, tested, with_literal}
 use Rattle.translation.specs.Strings.{Part, units, shown}
-use Rattle.translation.specs.Types.{Word, word_of, option_word, last_of, tys, Typed, well_formed, malformed, meaning_of, fitting}
+use Rattle.translation.specs.Types.{PlacedName, word_of, option_word, last_of, tys, Typed, well_formed, malformed, meaning_of, fitting}
 use Rattle.translation.specs.References.{Arguments, by_place, Reference, evaluated, item, constant, null, truth, this, block, raised_behind, row, send, in_let, own_name, identifier, read, called, assigned, compound, stepped}
 
 -- ---- constants, this and identifiers (16.2 Null to 16.5 Strings, 16.11 This)
@@ -345,9 +345,9 @@ map_form place types entries st =
 -- The type and the constructor's id: in `new A.b()` b is a constructor unless A is a prefix.
 pub record Creating : Type 0 where
   pub node : y.TypeNode
-  pub id : Option Word
+  pub id : Option PlacedName
 
-abbrev pub creating_as : Meaning → y.TypeNode → y.TypeNode → Word → Creating
+abbrev pub creating_as : Meaning → y.TypeNode → y.TypeNode → PlacedName → Creating
 creating_as m.prefix node class_node id = record { node = node; id = None }
 creating_as other node class_node id = record { node = class_node; id = Some id }
 
@@ -361,12 +361,12 @@ abbrev pub type_name : State → y.TypeNode → Text
 type_name st (y.dynamic_type place) = codes "dynamic"
 type_name st (y.named_type name dot types) = own_name (last_of (word_of name) (option_word dot)) st
 
-abbrev pub id_text : Option Word → State → Text
+abbrev pub id_text : Option PlacedName → State → Text
 id_text None st = []
 id_text (Some id) st = own_name id st
 
 -- what an error for a missing constructor names
-abbrev pub missing_name : Option Word → Text → State → Text
+abbrev pub missing_name : Option PlacedName → Text → State → Text
 missing_name None name st = name
 missing_name (Some id) name st = own_name id st
 
@@ -393,7 +393,7 @@ abbrev pub no_class : Place → Text → Arguments → Core
 no_class place name arguments = raised_behind place arguments.forms MalformedTypeError name false
 
 -- new T.id(arguments)
-abbrev pub created : Place → Typed → Text → Option Word → Arguments → Walk Core
+abbrev pub created : Place → Typed → Text → Option PlacedName → Arguments → Walk Core
 created place (malformed name) of id arguments st = went (no_class place name arguments) st
 created place (well_formed (class n types)) of id arguments st =
     created_by (st.tables.constructor n (id_text id st)) place n (listed types) (missing_name id of st) arguments st

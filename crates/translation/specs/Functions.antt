@@ -21,7 +21,7 @@ use Rattle.core_program.specs.Captured.{part_nodes, form_of, declares, names}
 use Rattle.translation.specs.Surroundings.{Text, Ty, Core, name_in}
 use Rattle.translation.specs.Walk.{Asked, unasked, Inside, Made, State, Walk, went, refused, on, too_large, bad_word, not_constant, with_site, fresh, declared, with_literal}
 use Rattle.translation.specs.Firsts.{first_of_expr}
-use Rattle.translation.specs.Types.{Word, word_of, asked_of_parameter, is_final, parameter_name, in_brackets}
+use Rattle.translation.specs.Types.{PlacedName, word_of, asked_of_parameter, is_final, parameter_name, in_brackets}
 use Rattle.translation.specs.Statements.{Literal, no_literal, a_null, a_bool, an_integer, a_negative, a_string, literal_of}
 
 -- ---- what is captured
@@ -140,7 +140,7 @@ formal_if true place walk st = walk st
 formal_if false place walk st = refused (bad_word place)
 
 -- the variable of a parameter
-abbrev pub bind_variable : Bool → Option ThisDot → Word → Asked → Bool → Walk ℕ
+abbrev pub bind_variable : Bool → Option ThisDot → PlacedName → Asked → Bool → Walk ℕ
 bind_variable allowed None name asked final_one st = declared name.text asked final_one st
 bind_variable allowed (Some this_dot) name asked final_one st = formal_if allowed this_dot.this fresh st
 
@@ -153,12 +153,12 @@ abbrev pub counted : {A : Type 0} → ℕ → Place → Walk A → Walk A
 counted n place walk st = counted_if (nat_eq n PARAMETERS) place walk st
 
 -- a parameter whose value is tested as it is bound
-abbrev pub bind_tested : Word → Shape → Asked → ℕ → Value → Walk (p.Parameter Text)
+abbrev pub bind_tested : PlacedName → Shape → Asked → ℕ → Value → Walk (p.Parameter Text)
 bind_tested name shape asked x default st = on (with_site kind.Param name.place asked st) (λ site st.
     went (record { var = x; name = name_in st.names.library name.text; shape = shape; default = default; site = site }) st)
 
 pub record Declared : Type 0 where
-  pub name : Word
+  pub name : PlacedName
   pub this_dot : Option ThisDot
   pub asked : Asked
   pub is_final : Bool

@@ -14,7 +14,7 @@ use Rattle.core_program.specs.Core as c
 use Rattle.translation.specs.Surroundings.{Text, Ty, Core, Meaning, name_in}
 use Rattle.translation.specs.Surroundings as m
 use Rattle.translation.specs.Walk.{Asked, unasked, Entry, State, Walk, went, refused, on, left_out, checked, fresh, entry_of}
-use Rattle.translation.specs.Types.{Word, tys, fitting, argument_in}
+use Rattle.translation.specs.Types.{PlacedName, tys, fitting, argument_in}
 
 -- ---- forms
 
@@ -82,7 +82,7 @@ pub data Bound : Type 0 where
 pub data Reference : Type 0 where
   -- a value, which isn't assignable
   evaluated : Core → Reference
-  named : Word → Bound → Reference
+  named : PlacedName → Bound → Reference
   -- e.n and e[i]
   member : Core → Text → Reference
   item : Core → Core → Reference
@@ -95,10 +95,10 @@ bound_of None of_this meaning = outer of_this meaning
 bound_of (Some entry) of_this meaning = local entry
 
 -- an identifier by itself
-abbrev pub identifier : Word → State → Reference
+abbrev pub identifier : PlacedName → State → Reference
 identifier word st = named word (bound_of (entry_of st word.text) st.inside.has_instance (st.names.meaning word.text))
 
-abbrev pub own_name : Word → State → Text
+abbrev pub own_name : PlacedName → State → Text
 own_name word st = name_in st.names.library word.text
 
 -- ---- reading
@@ -136,7 +136,7 @@ read_outer of_this place name m.member st = went (read_unknown of_this place nam
 read_outer of_this place name m.ambiguous st = went (read_unknown of_this place name) st
 read_outer of_this place name m.unknown st = went (read_unknown of_this place name) st
 
-abbrev pub read_bound : Word → Bound → Walk Core
+abbrev pub read_bound : PlacedName → Bound → Walk Core
 read_bound word (local entry) st = went (variable word.place entry.variable) st
 read_bound word (outer of_this meaning) st = read_outer of_this word.place (own_name word st) meaning st
 read_bound word (alias_behind at) st = refused (left_out at FunctionTypes)
@@ -176,7 +176,7 @@ call_outer of_this place name m.member arguments st = went (call_unknown of_this
 call_outer of_this place name m.ambiguous arguments st = went (call_unknown of_this place name arguments) st
 call_outer of_this place name m.unknown arguments st = went (call_unknown of_this place name arguments) st
 
-abbrev pub call_bound : Word → Bound → Arguments → Walk Core
+abbrev pub call_bound : PlacedName → Bound → Arguments → Walk Core
 call_bound word (local entry) arguments st = went (apply word.place (variable word.place entry.variable) arguments) st
 call_bound word (outer of_this meaning) arguments st = call_outer of_this word.place (own_name word st) meaning arguments st
 call_bound word (alias_behind at) arguments st = refused (left_out at FunctionTypes)
@@ -192,7 +192,7 @@ called place (super_item index) arguments st =
     went (apply place (row place (c.super role.Method (codes "[]")) (by_place (index ∷ []))) arguments) st
 
 -- the name of an alias is no value
-abbrev pub no_alias_at : Word → Bound → Reference → Walk Reference
+abbrev pub no_alias_at : PlacedName → Bound → Reference → Walk Reference
 no_alias_at word (outer of_this (m.alias n)) reference st = refused (left_out word.place FunctionTypes)
 no_alias_at word (alias_behind at) reference st = refused (left_out at FunctionTypes)
 no_alias_at word other reference st = went reference st
@@ -207,14 +207,14 @@ behind at (m.alias n) = alias_behind at
 behind at meaning = outer false meaning
 
 -- r.n: behind the name of a class a static member of it, behind a prefix what it gives
-abbrev pub member_behind : Place → Word → Word → Bound → Walk Reference
+abbrev pub member_behind : Place → PlacedName → PlacedName → Bound → Walk Reference
 member_behind place word first (outer of_this (m.class n)) st =
     went (named (record { place = place; text = word.text }) (outer false (st.tables.static n (own_name word st)))) st
 member_behind place word first (outer of_this m.prefix) st =
     went (named (record { place = place; text = word.text }) (behind word.place (st.names.prefixed first.text word.text))) st
 member_behind place word first bound st = on (read_bound first bound st) (λ form st. went (member form (own_name word st)) st)
 
-abbrev pub member_of : Place → Word → Reference → Walk Reference
+abbrev pub member_of : Place → PlacedName → Reference → Walk Reference
 member_of place word (named first bound) st = member_behind place word first bound st
 member_of place word reference st = on (read place reference st) (λ form st. went (member form (own_name word st)) st)
 
@@ -261,7 +261,7 @@ write_outer of_this place at name m.member form st = went (write_unknown of_this
 write_outer of_this place at name m.ambiguous form st = went (write_unknown of_this place name form) st
 write_outer of_this place at name m.unknown form st = went (write_unknown of_this place name form) st
 
-abbrev pub write_bound : Place → Place → Word → Bound → Core → Walk Core
+abbrev pub write_bound : Place → Place → PlacedName → Bound → Core → Walk Core
 write_bound place at word (local entry) form st =
     write_if entry.is_final (c.write entry.variable) place at (own_name word st) entry.asked form st
 write_bound place at word (outer of_this meaning) form st = write_outer of_this place at (own_name word st) meaning form st

@@ -30,7 +30,7 @@ use Rattle.translation.specs.Surroundings.{Text, Core}
 use Rattle.translation.specs.Walk.{Asked, unasked, Target, TargetKind, a_loop, a_switch, another, State, Walk, went, refused, on, bad_label, bad_switch, bad_constructor, bad_word, place_of_core, checked, tested, declared, scoped, in_handler, targeted, with_literal}
 use Rattle.translation.specs.Strings.{constant_units}
 use Rattle.translation.specs.Firsts.{first_of_expr}
-use Rattle.translation.specs.Types.{Word, text_of, Typed, well_formed, malformed}
+use Rattle.translation.specs.Types.{PlacedName, text_of, Typed, well_formed, malformed}
 use Rattle.translation.specs.References.{by_place, block, raise, send, in_let, identifier, write}
 
 -- ---- parts
@@ -192,15 +192,15 @@ for_form labels place start test updates body st =
     loop place (length st.targets) (flat_map var_of forms) test (update_part place steps) body ∷ []) ∷ []) after)))) after) went)) st
 
 -- what the turn of a for-in does with the next value: a new variable, or an assignment
-abbrev pub next_variable : Place → Word → Asked → Bool → Core → Walk Core
+abbrev pub next_variable : Place → PlacedName → Asked → Bool → Core → Walk Core
 next_variable place name asked is_final form st =
     on (checked kind.VarInit name.place asked form st) (λ form st. on (declared name.text asked is_final st)
     (λ x st. went (c.at place (c.unary (c.var x) form)) st))
 
-abbrev pub next_assigned : Place → Word → Core → Walk Core
+abbrev pub next_assigned : Place → PlacedName → Core → Walk Core
 next_assigned place name form st = write place name.place (identifier name st) form st
 
-abbrev pub next : Place → Word → Asked → y.VariableKind → Core → Walk Core
+abbrev pub next : Place → PlacedName → Asked → y.VariableKind → Core → Walk Core
 next place name asked y.no_kind form st = next_assigned place name form st
 next place name asked (y.var_kind at) form st = next_variable place name asked false form st
 next place name asked (y.final_kind at of) form st = next_variable place name asked true form st

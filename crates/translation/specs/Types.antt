@@ -27,19 +27,19 @@ text_of (i.Get place) = codes "get"
 text_of (i.Set place) = codes "set"
 
 -- an identifier at its place
-pub record Word : Type 0 where
+pub record PlacedName : Type 0 where
   pub place : Place
   pub text : Text
 
-abbrev pub word_of : Identifier → Word
+abbrev pub word_of : Identifier → PlacedName
 word_of name = record { place = place_of name; text = text_of name }
 
-abbrev pub option_word : Option DotName → Option Word
+abbrev pub option_word : Option DotName → Option PlacedName
 option_word None = None
 option_word (Some dot) = Some (word_of dot.name)
 
 -- the last id of a name with or without a dot
-abbrev pub last_of : Word → Option Word → Word
+abbrev pub last_of : PlacedName → Option PlacedName → PlacedName
 last_of first None = first
 last_of first (Some second) = second
 
@@ -57,7 +57,7 @@ abbrev pub behind_prefix : Meaning → Meaning → Meaning
 behind_prefix m.prefix meaning = meaning
 behind_prefix first meaning = m.unknown
 
-abbrev pub type_meaning : State → Word → Option Word → Meaning
+abbrev pub type_meaning : State → PlacedName → Option PlacedName → Meaning
 type_meaning st first None = meaning_of st first.text
 type_meaning st first (Some second) = behind_prefix (meaning_of st first.text) (st.names.prefixed first.text second.text)
 
