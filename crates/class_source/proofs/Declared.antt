@@ -6,7 +6,7 @@ use Rattle.dart_tree.specs.Tree as t
 use Rattle.dart_tree.specs.Unit as u
 use Rattle.translation.specs.Surroundings.{Ty, Names}
 use Rattle.dart_ir.specs.Ty.{dynamic}
-use Rattle.translation.specs.Types.{Word, word_of, asked_of_kind, is_final, type_asked, result_type, function_type}
+use Rattle.translation.specs.Types.{PlacedName, word_of, asked_of_kind, is_final, type_asked, result_type, function_type}
 use Rattle.translation.specs.ClassBodies.{annotated_type, members_of}
 use Rattle.translation.specs.Classes.{is_static, operator_declared}
 use Rattle.translation.specs.Declarations.{Declared, function_declared, accessor_declared}
@@ -137,11 +137,11 @@ module _ (given : Given) (names : Names) (classes n : ℕ) (scoped : AreScoped c
     annotated_formed : (kind : y.VariableKind) → IsFormed given.tables classes n (annotated_type (asked_of_kind (reading given names) kind))
     annotated_formed kind = chosen_formed (asked_of_kind (reading given names) kind).annotated (type_asked (asked_of_kind (reading given names) kind)) (kind_formed given names classes n scoped aliases kind)
 
-    setter_signed : (kind : y.VariableKind) (b : Bool) (name : Word) (j : ℕ) (c : Member) → slice_get (setter_of number (reading given names) b (asked_of_kind (reading given names) kind) name) j ≡ Some c → IsSigned c
+    setter_signed : (kind : y.VariableKind) (b : Bool) (name : PlacedName) (j : ℕ) (c : Member) → slice_get (setter_of number (reading given names) b (asked_of_kind (reading given names) kind) name) j ≡ Some c → IsSigned c
     setter_signed kind true name = none_listed IsSigned
     setter_signed kind false name = one_listed IsSigned _ (tt, (annotated_formed kind, tt), tt, tt)
 
-    field_signed : (kind : y.VariableKind) (b : Bool) (name : Word) (j : ℕ) (c : Member) → slice_get (field_members number (reading given names) b (asked_of_kind (reading given names) kind) name) j ≡ Some c → IsSigned c
+    field_signed : (kind : y.VariableKind) (b : Bool) (name : PlacedName) (j : ℕ) (c : Member) → slice_get (field_members number (reading given names) b (asked_of_kind (reading given names) kind) name) j ≡ Some c → IsSigned c
     field_signed kind b name zero c q = transport IsSigned (same_Some _ c q) (annotated_formed kind, tt, tt, tt)
     field_signed kind b name (suc j) c q = setter_signed kind b name j c q
 

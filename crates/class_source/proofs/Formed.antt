@@ -9,7 +9,7 @@ use Rattle.dart_tree.specs.Tree as t
 use Rattle.dart_ir.specs.Ty.{TysOf, NamedTysOf, dynamic, nil, unnamed}
 use Rattle.translation.specs.Surroundings.{Text, Ty, Meaning, Names}
 use Rattle.translation.specs.Surroundings as m
-use Rattle.translation.specs.Types.{Word, word_of, option_word, type_meaning, behind_prefix, tys, fitting, typed_as, typed, type_arguments, type_list, AliasType, no_alias, or_dynamic, asked_of, asked_of_kind, type_asked, result_type, in_brackets, positional, by_name, asked_of_parameter, function_type, parameter_types, named_types, type_of_parameter}
+use Rattle.translation.specs.Types.{PlacedName, word_of, option_word, type_meaning, behind_prefix, tys, fitting, typed_as, typed, type_arguments, type_list, AliasType, no_alias, or_dynamic, asked_of, asked_of_kind, type_asked, result_type, in_brackets, positional, by_name, asked_of_parameter, function_type, parameter_types, named_types, type_of_parameter}
 use Rattle.class_source.specs.Headers.{type_in}
 use Rattle.class_source.specs.Source.{Given, reading}
 use Rattle.class_source.specs.Resolved.{IsScoped, AreScoped}
@@ -89,7 +89,7 @@ module _ (given : Given) (names : Names) (classes n : ℕ) (scoped : AreScoped c
   behind_scoped m.ambiguous z h = tt
   behind_scoped m.unknown z h = tt
 
-  meaning_scoped : (first : Word) (second : Option Word) → IsScoped classes n (type_meaning (reading given names) first second)
+  meaning_scoped : (first : PlacedName) (second : Option PlacedName) → IsScoped classes n (type_meaning (reading given names) first second)
   meaning_scoped first None = scoped.alone first.text
   meaning_scoped first (Some second) = behind_scoped (names.meaning first.text) (names.prefixed first.text second.text) (scoped.prefixed first.text second.text)
 

@@ -16,7 +16,7 @@ use Rattle.dart_ir.specs.declared.class.Role.{Role}
 use Rattle.dart_ir.specs.declared.class.Role.TheVariants.{Method, Getter, Setter}
 use Rattle.translation.specs.Surroundings.{Ty, name_in}
 use Rattle.translation.specs.Walk.{Asked, State}
-use Rattle.translation.specs.Types.{Word, word_of, asked_of_kind, is_final, result_type, function_type}
+use Rattle.translation.specs.Types.{PlacedName, word_of, asked_of_kind, is_final, result_type, function_type}
 use Rattle.translation.specs.Declarations.{Declared, function_declared, accessor_declared}
 use Rattle.translation.specs.Classes.{is_static, external_of, operator_declared}
 use Rattle.translation.specs.ClassBodies.{getter_type, setter_type, is_constructor}
@@ -49,7 +49,7 @@ accessor_role (u.setter place name parameters) = Setter
 
 -- ---- fields: each induces a getter, and where it isn't final a setter (10.5 Instance Variables)
 
-abbrev pub induced : Numbers → State → Word → Role → Ty → Member
+abbrev pub induced : Numbers → State → PlacedName → Role → Ty → Member
 induced number st name role signature = record {
   name = name_in st.names.library name.text;
   role = role;
@@ -59,20 +59,20 @@ induced number st name role signature = record {
   has_body = true;
 }
 
-abbrev pub setter_of : Numbers → State → Bool → Asked → Word → List Member
+abbrev pub setter_of : Numbers → State → Bool → Asked → PlacedName → List Member
 setter_of number st true asked name = []
 setter_of number st false asked name = induced number st name Setter (setter_type asked) ∷ []
 
-abbrev pub field_members : Numbers → State → Bool → Asked → Word → List Member
+abbrev pub field_members : Numbers → State → Bool → Asked → PlacedName → List Member
 field_members number st final_one asked name =
     induced number st name Getter (getter_type asked) ∷ setter_of number st final_one asked name
 
-abbrev pub more_words : t.MoreVariables → List Word
+abbrev pub more_words : t.MoreVariables → List PlacedName
 more_words t.no_variables = []
 more_words (t.variable comma name value rest) = word_of name ∷ more_words rest
 
 -- the names that variables declare
-abbrev pub variable_words : t.Variables → List Word
+abbrev pub variable_words : t.Variables → List PlacedName
 variable_words (t.the_variables kind name value more semicolon) = word_of name ∷ more_words more
 
 abbrev pub variable_members : Numbers → State → t.Variables → List Member
@@ -92,11 +92,11 @@ declared_by number st (u.operator_member x) = function_member number st Method (
 abbrev pub instance_members : Numbers → State → u.Member → List Member
 instance_members number st x = if is_static x.modifier then [] else declared_by number st x.kind
 
-abbrev pub field_words : Bool → u.MemberKind → List Word
+abbrev pub field_words : Bool → u.MemberKind → List PlacedName
 field_words false (u.variables_member x) = variable_words x
 field_words other x = []
 
-abbrev pub fields_of_member : u.Member → List Word
+abbrev pub fields_of_member : u.Member → List PlacedName
 fields_of_member x = field_words (is_static x.modifier) x.kind
 
 abbrev pub field_count : List u.Member → ℕ

@@ -16,7 +16,7 @@ use Rattle.dart_ir.specs.declared.class.Role.{Role}
 use Rattle.dart_ir.specs.declared.class.Role.TheVariants.{Method}
 use Rattle.translation.specs.Surroundings.{name_in}
 use Rattle.translation.specs.Walk.{Asked, State}
-use Rattle.translation.specs.Types.{Word, word_of, asked_of_kind, is_final, result_type}
+use Rattle.translation.specs.Types.{PlacedName, word_of, asked_of_kind, is_final, result_type}
 use Rattle.translation.specs.Declarations.{Declared, count, parameter_count, function_declared, accessor_declared}
 use Rattle.translation.specs.Classes.{is_static, external_of, operator_word, operator_declared}
 use Rattle.class_source.specs.Rows.{Member}
@@ -63,11 +63,11 @@ unfolding erased.more_variables
 more_words_same t.no_variables = refl
 more_words_same (t.variable comma name value rest) = λ i. word_of name ∷ more_words_same rest i
 
-abbrev declared_as : Option Place → Word → Option y.ResultType → t.Parameters → t.Body → Declared
+abbrev declared_as : Option Place → PlacedName → Option y.ResultType → t.Parameters → t.Body → Declared
 declared_as external name result given inner = record { external = external; name = name; result = result; parameters = given; body = inner }
 
 module _ (number : Numbers) (st : State) where
-  member_alike : (role : Role) (external : Option Place) (name : Word) (result : Option y.ResultType) (given : t.Parameters) (inner : t.Body)
+  member_alike : (role : Role) (external : Option Place) (name : PlacedName) (result : Option y.ResultType) (given : t.Parameters) (inner : t.Body)
       → loose_member (function_member number st role (declared_as external name None (erased.parameters given) (erased.body inner)))
       ≡ loose_member (function_member number st role (declared_as external name result given inner))
   member_alike role external name result given inner = λ i. record {
@@ -100,7 +100,7 @@ module _ (number : Numbers) (st : State) where
 
   -- ---- fields
 
-  field_alike : (final_one : Bool) (asked other : Asked) (name : Word) → map loose_member (field_members number st final_one asked name) ≡ map loose_member (field_members number st final_one other name)
+  field_alike : (final_one : Bool) (asked other : Asked) (name : PlacedName) → map loose_member (field_members number st final_one asked name) ≡ map loose_member (field_members number st final_one other name)
   field_alike true asked other name = refl
   field_alike false asked other name = refl
 
