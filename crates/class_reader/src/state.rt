@@ -20,7 +20,7 @@ pub fn reading<S: Surroundings>(alloc: Global, outside: &S, outer: Outer) -> Sta
         inside: Inside {
             class: Some(ClassId(0)),
             arguments: None,
-            has_instance: true,
+            has_instance: false,
             result: unasked(),
             gives_value: true,
             in_handler: false,
