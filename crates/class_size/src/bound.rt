@@ -17,7 +17,8 @@ pub const UNKNOWN: usize = TYPE_NODES + 1;
 
 /// Of each class a bound on the sizes of the types above it. It takes time linear in the headers.
 pub fn bounds_of(alloc: Global, classes: &Classes) -> Result<Vec<usize>, AllocError>
-    ensures { IfOk result (λ bounds. AreBounds classes.now bounds.items) }
+    ensures each { IfOk result (λ bounds. length bounds.items ≡ length classes.now.classes.items) }
+    ensures bounds { IfOk result (λ bounds. AreBounds classes.now bounds.items) }
 {
     let mut bounds = Vec::new(alloc);
     for info in &classes.classes {

@@ -5,7 +5,7 @@ use Rattle.class_size.proofs.Firsts.{all_here, all_later, all_none}
 use Rattle.class_size.proofs.first.first_too_large.Goals as goal
 
 pub first_of_user-requires-clause-bounds : goal.first_of_user-requires-clause-bounds
-first_of_user-requires-clause-bounds c = transport (AreBounds c.args.classes.now) (sym c.deref.ensures.value) c.in_ok-bounds.ensures
+first_of_user-requires-clause-bounds c = transport (AreBounds c.args.classes.now) (sym c.deref.ensures.value) c.in_ok-bounds.ensures.bounds
 
 pub returns-in-Some : goal.returns-in-Some
 returns-in-Some c =
