@@ -1,5 +1,5 @@
 -- The classes that units declare, beside their scopes.
-use Rattle.std.proofs.Common.{◌≡◌, ◌∙◌, ℕ, ◌+◌, ◌<◌, Bool, true, false, if◌then◌else◌, List, [], ◌∷◌, ◌++◌, length, Option, Some, None, refl, sym, ap, subst, eqb-true}
+use Rattle.std.proofs.Common.{◌≡◌, ◌∙◌, ℕ, ◌+◌, ◌<◌, Bool, true, false, if◌then◌else◌, List, [], ◌∷◌, ◌++◌, length, map, Option, Some, None, refl, sym, ap, subst, eqb-true}
 use Rattle.std.specs.Prelude.{◌==◌, nat_lt, slice_get}
 use Rattle.std.specs.List.{AllZip}
 use Rattle.std.specs.Option.{option_map_or}
@@ -20,14 +20,17 @@ use Rattle.class_source.specs.Resolved.{AreScoped, IsClassResolved, IsResolved, 
 use Rattle.class_source.specs.Rows.{Class}
 use Rattle.class_source.specs.Source.{Given, declared_class, declared_classes, unit_classes}
 use Rattle.translation.specs.Walk as walk
-use Rattle.scope_program.specs.Around.{known, known_names, names_in_class, names_in_header}
-use Rattle.scope_program.specs.Classes.{ClassScope, class_scopes, declared_scope, parameters_of, unit_scopes}
+use Rattle.lower_annotation.specs.Annotated.{place_in}
+use Rattle.lower_annotation.specs.Numbered.{Alias, aliases_of, declarations, library_outer}
+use Rattle.scope_program.specs.Around.{known, known_names, members_around, names_at, names_in, names_in_class, names_in_header}
+use Rattle.scope_program.specs.Classes.{ClassScope, class_scopes, declared_scope, parameters_of, position_of, unit_scopes}
 use Rattle.scope_program.specs.Made.{AreScopesOf, IsClassOf}
 use Rattle.scope_program.specs.Program.{IsScoping, Scoping}
 use Rattle.scope_program.specs.declared.class.ClassScope as made
 use Rattle.scope_program.specs.declared.program.ProgramScopes.{ProgramScopes}
 use Rattle.dart_class.specs.Around.{is_simple}
-use Rattle.dart_class.specs.Given.{class_given, source_unit, source_units, source_units_from}
+use Rattle.dart_class.specs.Given.{class_given, signed_around, source_unit, source_units, source_units_from}
+use Rattle.dart_class.proofs.Aliases.{aliases-formed}
 use Rattle.dart_class.proofs.Classes.{Both, both-at, class-there}
 
 -- the class stands in the library of its scope, and has as many type parameters
@@ -105,18 +108,18 @@ known-names classes parameters names = record {
 
 module _ (state : State) (s : Scoping) (is : IsScoping state s) where
   abbrev all : List Class
-  all = unit_classes (class_given s) 0 (source_units state)
+  all = unit_classes (class_given state s) 0 (source_units state)
 
   fits : AllZip Fits s.classes all
-  fits = subst (λ (l : List ClassScope). AllZip Fits l all) (sym is.classes) (units-fit (class_given s) s.numbered state.names 0 0 (homes_of state) state.units)
+  fits = subst (λ (l : List ClassScope). AllZip Fits l all) (sym is.classes) (units-fit (class_given state s) s.numbered state.names 0 0 (homes_of state) state.units)
 
   count : length s.classes ≡ length all
   count = sym (AllZip-long Fits s.classes all fits)
 
-  class-resolved : (n : ℕ) (c : Class) → slice_get all n ≡ Some c → IsClassResolved (class_given s) (length all) n c
+  class-resolved : (n : ℕ) (c : Class) → slice_get all n ≡ Some c → IsClassResolved (class_given state s) (length all) n c
   class-resolved n c at = by (slice_get s.classes n) refl (subst (Both Fits (slice_get s.classes n)) at (both-at Fits s.classes all fits n))
     where
-      by : (o : Option ClassScope) → slice_get s.classes n ≡ o → Both Fits o (Some c) → IsClassResolved (class_given s) (length all) n c
+      by : (o : Option ClassScope) → slice_get s.classes n ≡ o → Both Fits o (Some c) → IsClassResolved (class_given state s) (length all) n c
       by None there h = absurd h
       by (Some scope) there h = record {
         library = ap (λ o. (names_in_class s o).library) there ∙ h.library;
@@ -129,13 +132,20 @@ module _ (state : State) (s : Scoping) (is : IsScoping state s) where
             (subst (λ k. AreScoped (length s.classes) k (names_in_class s (Some scope))) h.parameters (known-names (length s.classes) (length scope.parameters) _)));
       }
 
+  -- what names mean in libraries, in which aliases are read
+  scoped : (library : ℕ) → AreScoped (length all) 0 ((members_around s).names (library_outer library))
+  scoped library = subst (λ k. AreScoped k 0 (names_at s library None)) count (known-names (length s.classes) 0 (names_in s library))
+
+  abbrev written : List Alias
+  written = aliases_of (position_of s.numbered) (declarations s.homes state.units)
+
   module _ (scopes : ProgramScopes) (are : AreScopesOf s scopes) where
-    simple : (n k : ℕ) → n ≡ k → is_simple scopes.classes.items n ≡ true → IsSimple (class_given s) (length all) k
-    simple n k same e = subst (IsSimple (class_given s) (length all)) same
+    simple : (n k : ℕ) → n ≡ k → is_simple scopes.classes.items n ≡ true → IsSimple (class_given state s) (length all) k
+    simple n k same e = subst (IsSimple (class_given state s) (length all)) same
         (by (slice_get s.classes n) (slice_get scopes.classes.items n) refl (class-there s scopes are n) e)
       where
         by : (o : Option ClassScope) (p : Option made.ClassScope) → slice_get s.classes n ≡ o → Both (λ c m. IsClassOf s.kept s.numbered c m × (c.library < length s.libraries)) o p
-            → option_map_or (λ (x : made.ClassScope). x.parameters == 0) p false ≡ true → IsSimple (class_given s) (length all) n
+            → option_map_or (λ (x : made.ClassScope). x.parameters == 0) p false ≡ true → IsSimple (class_given state s) (length all) n
         by None None there h e = absurd (cc)
         by None (Some m) there h e = absurd h
         by (Some c) None there h e = absurd h
@@ -146,10 +156,11 @@ module _ (state : State) (s : Scoping) (is : IsScoping state s) where
 
     -- what classes are read with fits the units
     pub resolved : is_simple scopes.classes.items scopes.int_class ≡ true → is_simple scopes.classes.items scopes.string_class ≡ true
-        → IsResolved (class_given s) (source_units state)
+        → IsResolved (class_given state s) (source_units state)
     resolved int string = record {
       classes = class-resolved;
-      aliases = λ n k types formed. tt;
+      aliases = λ n k types formed. aliases-formed (members_around s) (length all) scoped (place_in (map (λ (x : Alias). x.number) written)) written
+          (signed_around state s).tables (λ c. refl) n k types formed;
       int = simple scopes.int_class _ are.int_class int;
       string = simple scopes.string_class _ are.string_class string;
     }

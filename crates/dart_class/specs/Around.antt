@@ -6,6 +6,10 @@ use Rattle.dart_ir.specs.Ty.{dynamic}
 use Rattle.dart_ir.specs.declared.number.ClassId.{ClassId}
 use Rattle.lower_leaf.specs.declared.meaning.Outer.{Outer}
 use Rattle.lower_leaf.specs.Around.{Around}
+use Rattle.lower_annotation.specs.Seen.{annotations_seen}
+use Rattle.lower_annotation.specs.declared.annotations.Annotations.{Annotations}
+use Rattle.class_reader.specs.Given.{given_of}
+use Rattle.class_source.specs.Source.{Given}
 use Rattle.translation.specs.Surroundings.{Text, Meaning, Names, Tables, Made}
 use Rattle.translation.specs.Surroundings as m
 use Rattle.scope_dictionary.specs.Names.{names_of}
@@ -97,3 +101,11 @@ number_of made place = unwrap_or (at_place made.places place) (length made.numbe
 -- whether there is a class of the number that has no type parameters
 abbrev pub is_simple : List ClassScope → ℕ → Bool
 is_simple classes number = option_map_or (λ (c : ClassScope). c.parameters == 0) (slice_get classes number) false
+
+-- what is made for the program with what annotations ask for
+abbrev pub signed : DeclaredScopes → Annotations → Around
+signed d made = annotations_seen (around_of d) made
+
+-- what classes are read with, by what is made for their headers and for their members
+abbrev pub given_by : DeclaredScopes → DeclaredScopes → Annotations → Given
+given_by headers members made = given_of (signed headers made) (signed members made) (library_of members.scopes.now) (number_of members.scopes.now)

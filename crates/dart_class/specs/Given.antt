@@ -6,14 +6,21 @@ use Rattle.scope_load.specs.declared.units.UnitName.{UnitName}
 use Rattle.scope_load.specs.declared.units.UnitName.TheVariants as n
 use Rattle.scope_library.specs.Library.{homes_of}
 use Rattle.class_source.specs.Source.{SourceUnit, Given}
-use Rattle.scope_program.specs.Classes.{number_at}
+use Rattle.lower_leaf.specs.Around.{Around}
+use Rattle.lower_annotation.specs.Annotated.{annotated}
+use Rattle.scope_program.specs.Classes.{number_at, position_of}
 use Rattle.scope_program.specs.Program.{Scoping}
-use Rattle.scope_program.specs.Around.{declared_tables, names_in_header}
+use Rattle.scope_program.specs.Around.{members_around, names_in_header}
 
--- what classes are read with: what names mean in headers and among members, and the numbers of declarations
-abbrev pub class_given : Scoping → Given
-class_given s = record {
-  tables = declared_tables s;
+-- what the members of classes are read in, with what the program's aliases stand for
+abbrev pub signed_around : State → Scoping → Around
+signed_around state s = annotated (position_of s.numbered) (members_around s) s.homes state.units
+
+-- What classes are read with: what names mean in headers and among members, what aliases stand for in signatures, and the numbers of
+-- declarations.
+abbrev pub class_given : State → Scoping → Given
+class_given state s = record {
+  tables = (signed_around state s).tables;
   header_names = λ n. names_in_header s (slice_get s.classes n);
   number = number_at s.numbered;
 }

@@ -2,6 +2,7 @@
 ghost use Rattle.std.specs.Prelude.{◌≡◌, Some, length, true, false};
 ghost use Rattle.lower_leaf.specs.Around.{meaning};
 ghost use Rattle.scope_program.specs.Around.{known, known_names};
+ghost use Rattle.scope_program.specs.Places.{at_place};
 ghost use Rattle.dart_class.specs.Around.{around_of, class_header, class_inside, class_names, library_names, library_of, names_at, number_of};
 
 use class_reader::position::Positions;
@@ -10,6 +11,7 @@ use dart_base::place::Place;
 use dart_ir::native::NativeId;
 use dart_ir::number::{ClassId, DeclId};
 use dart_ir::types::{TypeRef, Types};
+use lower_annotation::number::Numbers;
 use lower_leaf::fault::Want;
 use lower_leaf::meaning::{Constructor, Meaning, Mixin, Outer};
 use lower_leaf::surroundings::Surroundings;
@@ -250,5 +252,13 @@ impl<'a> Positions for DeclaredScopes<'a> {
     fn number_at(&self, place: Place) -> Option<DeclId> {
         let number = self.scopes.number_at(place)?;
         Some(DeclId(number))
+    }
+}
+
+impl<'a> Numbers for DeclaredScopes<'a> {
+    ghost numbers = { λ d. at_place d.scopes.now.places };
+
+    fn number_at(&self, place: Place) -> Option<u32> {
+        self.scopes.number_at(place)
     }
 }

@@ -193,7 +193,7 @@ module _ (mode other : Mode) (b : Budget) (Alike : Execution → Execution → T
   module _ (state : State) (s : Scoping) (distinct : AreDistinct s.texts) where
     alike_translated : (x y : Execution) → IsTranslated state s mode b x → IsTranslated state s other b y → Alike x y
     alike_translated x y is so =
-        let tables = one_built (class_given s) (source_units state) s.texts distinct is.table.built so.table.built is.table.is_built so.table.is_built in
+        let tables = one_built (class_given state s) (source_units state) s.texts distinct is.table.built so.table.built is.table.is_built so.table.is_built in
         let seen = stay_equal s is.table.built so.table.built is.classes so.classes is.table.numbered so.table.numbered tables.classes tables.members tables.function in
         let mains : is.main ≡ so.main = same_Some is.main so.main (sym is.starts ∙ so.starts) in
         let given : given_of s state so.classes so.main ≡ given_of s state is.classes is.main =
@@ -202,21 +202,21 @@ module _ (mode other : Mode) (b : Budget) (Alike : Execution → Execution → T
         (subst (λ (g : p.Given). Follows state s.kept s.texts so.classes other b (p.core g) y) given so.follows)
 
     refusal_or_translated : (how : Mode) (x y : Execution) → IsRefusedBy state s x → IsTranslated state s how b y → ⊥
-    refusal_or_translated how x y (f, refused, e) so = fault_or_built (class_given s) (source_units state) s.texts distinct f so.table.built refused so.table.is_built
+    refusal_or_translated how x y (f, refused, e) so = fault_or_built (class_given state s) (source_units state) s.texts distinct f so.table.built refused so.table.is_built
 
     large_or_translated : (how : Mode) (x y : Execution) → IsTooLarge state s x → IsTranslated state s how b y → ⊥
-    large_or_translated how x y (place, large, e) so = large_or_built (class_given s) (source_units state) s.texts distinct place so.table.built large so.table.is_built
+    large_or_translated how x y (place, large, e) so = large_or_built (class_given state s) (source_units state) s.texts distinct place so.table.built large so.table.is_built
 
     refusal_or_large : (x y : Execution) → IsRefusedBy state s x → IsTooLarge state s y → ⊥
-    refusal_or_large x y (f, refused, e) (place, large, g) = fault_or_large (class_given s) (source_units state) s.texts distinct f place refused large
+    refusal_or_large x y (f, refused, e) (place, large, g) = fault_or_large (class_given state s) (source_units state) s.texts distinct f place refused large
 
     one_refusal : (x y : Execution) → IsRefusedBy state s x → IsRefusedBy state s y → x ≡ y
     one_refusal x y (f, refused, e) (g, also, h) =
-        e ∙ ap (λ (t : Fault). Refused t.place (class_cause t.reason)) (one_fault (class_given s) (source_units state) s.texts distinct f g refused also) ∙ sym h
+        e ∙ ap (λ (t : Fault). Refused t.place (class_cause t.reason)) (one_fault (class_given state s) (source_units state) s.texts distinct f g refused also) ∙ sym h
 
     one_large : (x y : Execution) → IsTooLarge state s x → IsTooLarge state s y → x ≡ y
     one_large x y (place, large, e) (at, also, h) =
-        e ∙ ap (λ (t : Place). Refused t cause.TypesTooLarge) (one_place (class_given s) (source_units state) s.texts distinct place at large also) ∙ sym h
+        e ∙ ap (λ (t : Place). Refused t cause.TypesTooLarge) (one_place (class_given state s) (source_units state) s.texts distinct place at large also) ∙ sym h
 
     alike_in : (x y : Execution) → ExecutesIn state s mode b x → ExecutesIn state s other b y → Alike x y
     alike_in x y (inl is) (inl so) = same x y (one_refusal x y is so)

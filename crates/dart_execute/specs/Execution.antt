@@ -93,7 +93,7 @@ Follows state kept texts k mode budget p.not_built out = out ≡ NotBuilt
 -- The table of its classes, in which implicit accessors have numbers of their own.
 pub record IsTableOf (state : State) (s : Scoping) (k : Classes) : Type 0 where
   pub built : Classes
-  pub is_built : IsBuiltFrom (class_given s) (source_units state) s.texts built
+  pub is_built : IsBuiltFrom (class_given state s) (source_units state) s.texts built
   pub numbered : IsNumbered s built k
 
 -- It is translated over that table, and starts at its function `main`.
@@ -106,10 +106,10 @@ pub record IsTranslated (state : State) (s : Scoping) (mode : Mode) (budget : Bu
 
 -- the first header that is refused, or that is too large
 abbrev pub IsRefusedBy : State → Scoping → Execution → Type 0
-IsRefusedBy state s out = (f : Fault) × IsRefusedIn (class_given s) (source_units state) s.texts f × (out ≡ Refused f.place (class_cause f.reason))
+IsRefusedBy state s out = (f : Fault) × IsRefusedIn (class_given state s) (source_units state) s.texts f × (out ≡ Refused f.place (class_cause f.reason))
 
 abbrev pub IsTooLarge : State → Scoping → Execution → Type 0
-IsTooLarge state s out = (place : Place) × IsOverlargeIn (class_given s) (source_units state) s.texts place × (out ≡ Refused place cause.TypesTooLarge)
+IsTooLarge state s out = (place : Place) × IsOverlargeIn (class_given state s) (source_units state) s.texts place × (out ≡ Refused place cause.TypesTooLarge)
 
 -- It is refused for a header, or translated.
 abbrev pub ExecutesIn : State → Scoping → Mode → Budget → Execution → Type 0

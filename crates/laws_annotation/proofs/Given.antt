@@ -1,5 +1,5 @@
 -- What classes are read with, and what is translated, of an erased program.
-use Rattle.std.proofs.Common.{◌≡◌, refl, sym, ap, ◌∙◌, ℕ, ◌+◌, List, [], ◌∷◌, length, map, None}
+use Rattle.std.proofs.Common.{◌≡◌, refl, sym, ap, ◌∙◌, ℕ, ◌+◌, List, [], ◌∷◌, length, map, Option, None}
 use Rattle.std.specs.Prelude.{codes, slice_get}
 use Rattle.std.specs.List.{zip}
 use Rattle.dart_ir.specs.declared.class.Classes.{Classes}
@@ -12,7 +12,8 @@ use Rattle.core_program.specs.Stripped as stripped
 use Rattle.scope_load.specs.State.{State}
 use Rattle.scope_load.specs.declared.units.UnitName.{UnitName}
 use Rattle.scope_library.specs.Library.{homes_of}
-use Rattle.translation.specs.Surroundings.{Text}
+use Rattle.translation.specs.Surroundings.{Text, Ty}
+use Rattle.translation.specs.Types.{AliasType}
 use Rattle.class_source.specs.Source as source
 use Rattle.scope_program.specs.Classes.{ClassScope, number_at}
 use Rattle.scope_program.specs.Program.{Scoping}
@@ -22,11 +23,11 @@ use Rattle.lower_added.specs.Written.{written_class}
 use Rattle.lower_table.specs.Rows.{rows_of, index_of}
 use Rattle.lower_table.specs.Table.{around_by, meanings_of, written_of, source_of, table_around}
 use Rattle.lower_program.specs.Views.{library_outer, member_info}
-use Rattle.dart_class.specs.Given.{class_given, source_unit as class_unit, source_units_from, source_units}
+use Rattle.dart_class.specs.Given.{class_given, signed_around, source_unit as class_unit, source_units_from, source_units}
 use Rattle.dart_lower.specs.Given.{file_name, source_unit, annotated_around, given_of}
 use Rattle.laws_translation.specs.LinedUnit as lined
 use Rattle.laws_translation.specs.Bare.{tables_without, erased_unit, lined_unit, erased_given, lines}
-use Rattle.laws_annotation.specs.Erased.{erased_state, erased_class, erased_scoping, erased_source}
+use Rattle.laws_annotation.specs.Erased.{erased_state, erased_class, erased_scoping, erased_source, signed, unsigned}
 use Rattle.laws_annotation.specs.Tables.{loose_member, DifferInSignaturesAlone}
 use Rattle.laws_annotation.proofs.Mapped.{map_same}
 use Rattle.laws_annotation.proofs.Libraries.{homes_same}
@@ -35,12 +36,23 @@ use Rattle.laws_annotation.proofs.Scopes.{header_at, class_at, static_at, constr
 
 -- ---- what classes are read with
 
-pub given_same : (s : Scoping) → class_given (erased_scoping s) ≡ class_given s
-given_same s = λ i. record {
-  tables = tables_same s i;
-  header_names = λ n. header_at s n i;
-  number = number_at s.numbered;
-}
+module _ (s : Scoping) (state : State) where
+  -- what aliases stand for in the erased program, and what annotations ask of its variables
+  abbrev pub erased_aliases : AliasType
+  erased_aliases = (signed_around (erased_state state) (erased_scoping s)).tables.alias_type
+
+  abbrev pub erased_variables : ℕ → Option Ty
+  erased_variables = (signed_around (erased_state state) (erased_scoping s)).tables.variable_type
+
+  pub given_same : class_given (erased_state state) (erased_scoping s) ≡ signed (class_given state s) erased_aliases erased_variables
+  given_same = λ i. record {
+    tables = record (tables_same s i) { alias_type = erased_aliases; variable_type = erased_variables };
+    header_names = λ n. header_at s n i;
+    number = number_at s.numbered;
+  }
+
+  pub unsigned_same : unsigned (class_given (erased_state state) (erased_scoping s)) ≡ unsigned (class_given state s)
+  unsigned_same = ap unsigned given_same
 
 units_from_same : (names : List UnitName) (at : ℕ) (homes : List ℕ) (units : List u.UnitTree)
     → source_units_from names at homes (map of_unit.unit units) ≡ map erased_source (source_units_from names at homes units)

@@ -11,6 +11,7 @@ mod Programs
 mod Classes
 pub mod Scopes
 mod Signatures
+mod HeaderTypes
 mod Members
 mod Rows
 pub mod Given

@@ -14,7 +14,7 @@ use Rattle.dart_erase.specs.UnitErased as of_unit
 use Rattle.dart_erase.proofs.Twice.{twice_member}
 use Rattle.dart_ir.specs.declared.class.Role.{Role}
 use Rattle.dart_ir.specs.declared.class.Role.TheVariants.{Method}
-use Rattle.translation.specs.Surroundings.{name_in}
+use Rattle.translation.specs.Surroundings.{Tables, name_in}
 use Rattle.translation.specs.Walk.{Asked, State}
 use Rattle.translation.specs.Types.{PlacedName, word_of, asked_of_kind, is_final, result_type}
 use Rattle.translation.specs.Declarations.{Declared, count, parameter_count, function_declared, accessor_declared}
@@ -32,10 +32,10 @@ flat_alike : {A B : Type 0} (g : B → B) (f h : A → List B) → ((x : A) → 
 flat_alike g f h each [] = refl
 flat_alike g f h each (x ∷ xs) = map-append g (f x) (flat_map f xs) ∙ (λ i. each x i ++ flat_alike g f h each xs i) ∙ sym (map-append g (h x) (flat_map h xs))
 
-flat_alike_of : {A B : Type 0} (e : A → A) (g : B → B) (f : A → List B) → ((x : A) → map g (f (e x)) ≡ map g (f x)) → (xs : List A)
-    → map g (flat_map f (map e xs)) ≡ map g (flat_map f xs)
-flat_alike_of e g f each [] = refl
-flat_alike_of e g f each (x ∷ xs) = map-append g (f (e x)) (flat_map f (map e xs)) ∙ (λ i. each x i ++ flat_alike_of e g f each xs i) ∙ sym (map-append g (f x) (flat_map f xs))
+flat_alike_of : {A B : Type 0} (e : A → A) (g : B → B) (f h : A → List B) → ((x : A) → map g (f (e x)) ≡ map g (h x)) → (xs : List A)
+    → map g (flat_map f (map e xs)) ≡ map g (flat_map h xs)
+flat_alike_of e g f h each [] = refl
+flat_alike_of e g f h each (x ∷ xs) = map-append g (f (e x)) (flat_map f (map e xs)) ∙ (λ i. each x i ++ flat_alike_of e g f h each xs i) ∙ sym (map-append g (h x) (flat_map h xs))
 
 -- ---- methods and accessors
 
@@ -66,59 +66,64 @@ more_words_same (t.variable comma name value rest) = λ i. word_of name ∷ more
 abbrev declared_as : Option Place → PlacedName → Option y.ResultType → t.Parameters → t.Body → Declared
 declared_as external name result given inner = record { external = external; name = name; result = result; parameters = given; body = inner }
 
-module _ (number : Numbers) (st : State) where
+module _ (number : Numbers) (st : State) (tables : Tables) where
+  -- where aliases and variables may have other types
+  abbrev other : State
+  other = record st { tables = tables }
+
   member_alike : (role : Role) (external : Option Place) (name : PlacedName) (result : Option y.ResultType) (given : t.Parameters) (inner : t.Body)
-      → loose_member (function_member number st role (declared_as external name None (erased.parameters given) (erased.body inner)))
+      → loose_member (function_member number other role (declared_as external name None (erased.parameters given) (erased.body inner)))
       ≡ loose_member (function_member number st role (declared_as external name result given inner))
   member_alike role external name result given inner = λ i. record {
     name = name_in st.names.library name.text;
     role = role;
     function = number name.place;
-    signature = signature_same st (result_type st None) (result_type st result) given i;
+    signature = signature_same st tables (result_type other None) (result_type st result) given i;
     place = name.place;
     has_body = is_some external || written_same inner i;
   }
 
-  function_alike : (x : t.Function) → loose_member (function_member number st Method (function_declared (erased.function x))) ≡ loose_member (function_member number st Method (function_declared x))
+  function_alike : (x : t.Function) → loose_member (function_member number other Method (function_declared (erased.function x))) ≡ loose_member (function_member number st Method (function_declared x))
   unfolding erased.function
   function_alike (t.the_function external result name given inner) = member_alike Method external (word_of name) result given inner
 
   accessor_alike : (role : Role) (external : Option Place) (result : Option y.ResultType) (kind : u.AccessorKind) (inner : t.Body)
-      → loose_member (function_member number st role (accessor_declared (of_unit.accessor (record { external = external; result_type = result; kind = kind; body = inner }))))
+      → loose_member (function_member number other role (accessor_declared (of_unit.accessor (record { external = external; result_type = result; kind = kind; body = inner }))))
       ≡ loose_member (function_member number st role (accessor_declared (record { external = external; result_type = result; kind = kind; body = inner })))
   unfolding erased.parameters erased.parameter_list
   accessor_alike role external result (u.getter place name) inner =
       member_alike role external (word_of name) result (t.the_parameters place t.no_parameters None t.no_parameters place) inner
   accessor_alike role external result (u.setter place name given) inner = member_alike role external (word_of name) result given inner
 
-  operator_alike : (x : u.OperatorMember) → loose_member (function_member number st Method (operator_declared (of_unit.operator_member x)))
+  operator_alike : (x : u.OperatorMember) → loose_member (function_member number other Method (operator_declared (of_unit.operator_member x)))
       ≡ loose_member (function_member number st Method (operator_declared x))
   operator_alike x =
-      (λ i. loose_member (function_member number st Method (declared_as x.external (operator_word x.name (nat_eq (parameter_count_same x.parameters i) 0)) None
+      (λ i. loose_member (function_member number other Method (declared_as x.external (operator_word x.name (nat_eq (parameter_count_same x.parameters i) 0)) None
       (erased.parameters x.parameters) (erased.body x.body))))
       ∙ member_alike Method x.external (operator_word x.name (nat_eq (parameter_count x.parameters) 0)) x.result_type x.parameters x.body
 
   -- ---- fields
 
-  field_alike : (final_one : Bool) (asked other : Asked) (name : PlacedName) → map loose_member (field_members number st final_one asked name) ≡ map loose_member (field_members number st final_one other name)
-  field_alike true asked other name = refl
-  field_alike false asked other name = refl
+  field_alike : (final_one : Bool) (asked asked2 : Asked) (name : PlacedName)
+      → map loose_member (field_members number other final_one asked name) ≡ map loose_member (field_members number st final_one asked2 name)
+  field_alike true asked asked2 name = refl
+  field_alike false asked asked2 name = refl
 
-  variables_alike : (x : t.Variables) → map loose_member (variable_members number st (erased.variables x)) ≡ map loose_member (variable_members number st x)
+  variables_alike : (x : t.Variables) → map loose_member (variable_members number other (erased.variables x)) ≡ map loose_member (variable_members number st x)
   unfolding erased.variables
   variables_alike (t.the_variables kind name value more semicolon) =
-      (λ i. map loose_member (flat_map (field_members number st (final_same name kind i) (asked_of_kind st (erased.variable_kind name kind))) (word_of name ∷ more_words_same more i)))
-      ∙ flat_alike loose_member (field_members number st (is_final kind) (asked_of_kind st (erased.variable_kind name kind)))
-      (field_members number st (is_final kind) (asked_of_kind st kind)) (field_alike (is_final kind) (asked_of_kind st (erased.variable_kind name kind)) (asked_of_kind st kind))
+      (λ i. map loose_member (flat_map (field_members number other (final_same name kind i) (asked_of_kind other (erased.variable_kind name kind))) (word_of name ∷ more_words_same more i)))
+      ∙ flat_alike loose_member (field_members number other (is_final kind) (asked_of_kind other (erased.variable_kind name kind)))
+      (field_members number st (is_final kind) (asked_of_kind st kind)) (field_alike (is_final kind) (asked_of_kind other (erased.variable_kind name kind)) (asked_of_kind st kind))
       (word_of name ∷ more_words more)
 
   -- ---- all members
 
-  declared_alike : (x : u.MemberKind) → map loose_member (declared_by number st (of_unit.member_kind x)) ≡ map loose_member (declared_by number st x)
+  declared_alike : (x : u.MemberKind) → map loose_member (declared_by number other (of_unit.member_kind x)) ≡ map loose_member (declared_by number st x)
   declared_alike (u.constructor_member x) = refl
   declared_alike (u.function_member x) = λ i. function_alike x i ∷ []
   declared_alike (u.accessor_member x) =
-      (λ i. loose_member (function_member number st (role_same x.kind i) (accessor_declared (of_unit.accessor x))) ∷ [])
+      (λ i. loose_member (function_member number other (role_same x.kind i) (accessor_declared (of_unit.accessor x))) ∷ [])
       ∙ (λ i. accessor_alike (accessor_role x.kind) x.external x.result_type x.kind x.body i ∷ [])
   declared_alike (u.variables_member x) = variables_alike x
   declared_alike (u.operator_member x) = λ i. operator_alike x i ∷ []
@@ -127,11 +132,12 @@ module _ (number : Numbers) (st : State) where
   if_alike true xs ys e = refl
   if_alike false xs ys e = e
 
-  instance_alike : (x : u.Member) → map loose_member (instance_members number st (of_unit.member x)) ≡ map loose_member (instance_members number st x)
-  instance_alike x = if_alike (is_static x.modifier) (declared_by number st (of_unit.member_kind x.kind)) (declared_by number st x.kind) (declared_alike x.kind)
+  instance_alike : (x : u.Member) → map loose_member (instance_members number other (of_unit.member x)) ≡ map loose_member (instance_members number st x)
+  instance_alike x = if_alike (is_static x.modifier) (declared_by number other (of_unit.member_kind x.kind)) (declared_by number st x.kind) (declared_alike x.kind)
 
-  pub members_alike : (xs : List u.Member) → map loose_member (flat_map (instance_members number st) (map of_unit.member xs)) ≡ map loose_member (flat_map (instance_members number st) xs)
-  members_alike xs = flat_alike_of of_unit.member loose_member (instance_members number st) instance_alike xs
+  pub members_alike : (xs : List u.Member) → map loose_member (flat_map (instance_members number other) (map of_unit.member xs))
+      ≡ map loose_member (flat_map (instance_members number st) xs)
+  members_alike xs = flat_alike_of of_unit.member loose_member (instance_members number other) (instance_members number st) instance_alike xs
 
 -- ---- what headers ask of members
 

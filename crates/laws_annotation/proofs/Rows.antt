@@ -7,18 +7,19 @@ use Rattle.dart_tree.specs.UnitView.{maybe}
 use Rattle.dart_tree.specs.Places.{place_of}
 use Rattle.dart_tree.specs.Unit as u
 use Rattle.dart_erase.specs.UnitErased as of_unit
-use Rattle.translation.specs.Surroundings.{Text, name_in}
+use Rattle.translation.specs.Surroundings.{Text, Ty, name_in}
 use Rattle.translation.specs.Walk.{State}
-use Rattle.translation.specs.Types.{text_of}
+use Rattle.translation.specs.Types.{AliasType, text_of}
 use Rattle.translation.specs.ClassBodies.{members_of, is_mixed}
 use Rattle.class_source.specs.Rows.{Class}
 use Rattle.class_source.specs.Members.{instance_members, field_count, is_external_member, is_constructor_member, names_super}
 use Rattle.class_source.specs.Headers.{named, bound, bounds}
 use Rattle.class_source.specs.Source.{SourceUnit, Given, reading, is_basic, class_row, declared_class, declared_classes, unit_classes, class_called, core_library, classes_of}
-use Rattle.laws_annotation.specs.Erased.{erased_source}
+use Rattle.laws_annotation.specs.Erased.{erased_source, signed}
 use Rattle.laws_table.specs.Loose.{loose_member, loose_class, loose_classes}
 use Rattle.laws_annotation.proofs.Mapped.{map_same, length_same}
 use Rattle.laws_annotation.proofs.Classes.{mixed_same, members_same}
+use Rattle.laws_annotation.proofs.HeaderTypes.{names_same, bounds_free}
 use Rattle.laws_annotation.proofs.Members.{members_alike, field_count_same, external_same, constructors_same, supers_same}
 
 bounds_same : (st : State) (o : Option u.TypeParameters) → bounds st (maybe of_unit.type_parameters o) ≡ bounds st o
@@ -29,10 +30,15 @@ named_same : (st : State) (x : u.ClassKind) → named st (of_unit.class_kind x) 
 named_same st (u.declared_class above interfaces opening members closing) = refl
 named_same st (u.mixed_class equals above mixins interfaces semicolon) = refl
 
-module _ (given : Given) (unit : SourceUnit) where
-  class_alike : (n : ℕ) (x : u.Class) → loose_class (class_row given (erased_source unit) n (of_unit.class x)) ≡ loose_class (class_row given unit n x)
-  class_alike n x =
+module _ (given : Given) (aliases : AliasType) (variables : ℕ → Option Ty) where
+  -- where aliases and variables may have other types
+  abbrev other : Given
+  other = signed given aliases variables
+
+  class_alike : (unit : SourceUnit) (n : ℕ) (x : u.Class) → loose_class (class_row other (erased_source unit) n (of_unit.class x)) ≡ loose_class (class_row given unit n x)
+  class_alike unit n x =
       let header : State = reading given (given.header_names n) in
+      let around : State = reading other (given.header_names n) in
       let inside : State = reading given (given.tables.class_names n) in
       (λ i. record {
         name = name_in unit.library (text_of x.name);
@@ -48,11 +54,11 @@ module _ (given : Given) (unit : SourceUnit) where
           has_constructor = list_any is_constructor_member (members_same x.kind i);
           names_super = list_any names_super (members_same x.kind i);
         };
-        bounds = bounds_same header x.parameters i;
-        superclass = (named_same header x.kind i).superclass;
-        mixins = (named_same header x.kind i).mixins;
-        interfaces = (named_same header x.kind i).interfaces;
-        members = map loose_member (flat_map (instance_members given.number inside) (members_same x.kind i));
+        bounds = bounds_same around x.parameters i;
+        superclass = (named_same around x.kind i).superclass;
+        mixins = (named_same around x.kind i).mixins;
+        interfaces = (named_same around x.kind i).interfaces;
+        members = map loose_member (flat_map (instance_members given.number (reading other (given.tables.class_names n))) (members_same x.kind i));
         fields = field_count (members_same x.kind i);
       }) ∙ (λ i. record {
         name = name_in unit.library (text_of x.name);
@@ -68,21 +74,22 @@ module _ (given : Given) (unit : SourceUnit) where
           has_constructor = constructors_same (members_of x.kind) i;
           names_super = supers_same (members_of x.kind) i;
         };
-        bounds = bounds header x.parameters;
-        superclass = (named header x.kind).superclass;
-        mixins = (named header x.kind).mixins;
-        interfaces = (named header x.kind).interfaces;
-        members = members_alike given.number inside (members_of x.kind) i;
+        bounds = bounds_free header aliases variables x.parameters i;
+        superclass = (names_same header aliases variables x.kind i).superclass;
+        mixins = (names_same header aliases variables x.kind i).mixins;
+        interfaces = (names_same header aliases variables x.kind i).interfaces;
+        members = members_alike given.number inside other.tables (members_of x.kind) i;
         fields = field_count_same (members_of x.kind) i;
       })
 
-  declared_alike : (n : ℕ) (x : u.DeclKind) → map loose_class (declared_class given (erased_source unit) n (of_unit.decl_kind x)) ≡ map loose_class (declared_class given unit n x)
-  declared_alike n (u.class_decl x) = λ i. class_alike n x i ∷ []
-  declared_alike n (u.alias_decl x) = refl
-  declared_alike n (u.function_decl x) = refl
-  declared_alike n (u.accessor_decl x) = refl
-  declared_alike n (u.variables_decl x) = refl
-  declared_alike n (u.enum_decl x) = refl
+  declared_alike : (unit : SourceUnit) (n : ℕ) (x : u.DeclKind) → map loose_class (declared_class other (erased_source unit) n (of_unit.decl_kind x))
+      ≡ map loose_class (declared_class given unit n x)
+  declared_alike unit n (u.class_decl x) = λ i. class_alike unit n x i ∷ []
+  declared_alike unit n (u.alias_decl x) = refl
+  declared_alike unit n (u.function_decl x) = refl
+  declared_alike unit n (u.accessor_decl x) = refl
+  declared_alike unit n (u.variables_decl x) = refl
+  declared_alike unit n (u.enum_decl x) = refl
 
 -- lists of classes that are alike are as long
 as_long : (xs ys : List Class) → map loose_class xs ≡ map loose_class ys → length xs ≡ length ys
@@ -92,26 +99,30 @@ as_long xs ys e = sym (length_same loose_class xs) ∙ ap length e ∙ length_sa
 behind : (xs ys us vs : List Class) → map loose_class xs ≡ map loose_class ys → map loose_class us ≡ map loose_class vs → map loose_class (xs ++ us) ≡ map loose_class (ys ++ vs)
 behind xs ys us vs e f = map-append loose_class xs us ∙ (λ i. e i ++ f i) ∙ sym (map-append loose_class ys vs)
 
-module _ (given : Given) where
+module _ (given : Given) (aliases : AliasType) (variables : ℕ → Option Ty) where
+  abbrev others : Given
+  others = signed given aliases variables
+
   declarations_alike : (unit : SourceUnit) (n : ℕ) (xs : List u.Decl) →
-      map loose_class (declared_classes given (erased_source unit) n (map of_unit.decl xs)) ≡ map loose_class (declared_classes given unit n xs)
+      map loose_class (declared_classes others (erased_source unit) n (map of_unit.decl xs)) ≡ map loose_class (declared_classes given unit n xs)
   declarations_alike unit n [] = refl
   declarations_alike unit n (x ∷ xs) =
-      let before : List Class = declared_class given (erased_source unit) n (of_unit.decl_kind x.kind) in
+      let before : List Class = declared_class others (erased_source unit) n (of_unit.decl_kind x.kind) in
       let after : List Class = declared_class given unit n x.kind in
-      behind before after (declared_classes given (erased_source unit) (n + length before) (map of_unit.decl xs)) (declared_classes given unit (n + length after) xs)
-      (declared_alike given unit n x.kind)
-      (ap (λ (m : ℕ). map loose_class (declared_classes given (erased_source unit) (n + m) (map of_unit.decl xs))) (as_long before after (declared_alike given unit n x.kind))
+      behind before after (declared_classes others (erased_source unit) (n + length before) (map of_unit.decl xs)) (declared_classes given unit (n + length after) xs)
+      (declared_alike given aliases variables unit n x.kind)
+      (ap (λ (m : ℕ). map loose_class (declared_classes others (erased_source unit) (n + m) (map of_unit.decl xs)))
+      (as_long before after (declared_alike given aliases variables unit n x.kind))
       ∙ declarations_alike unit (n + length after) xs)
 
-  units_alike : (n : ℕ) (units : List SourceUnit) → map loose_class (unit_classes given n (map erased_source units)) ≡ map loose_class (unit_classes given n units)
+  units_alike : (n : ℕ) (units : List SourceUnit) → map loose_class (unit_classes others n (map erased_source units)) ≡ map loose_class (unit_classes given n units)
   units_alike n [] = refl
   units_alike n (x ∷ xs) =
-      let before : List Class = declared_classes given (erased_source x) n (map of_unit.decl x.declarations) in
+      let before : List Class = declared_classes others (erased_source x) n (map of_unit.decl x.declarations) in
       let after : List Class = declared_classes given x n x.declarations in
-      behind before after (unit_classes given (n + length before) (map erased_source xs)) (unit_classes given (n + length after) xs)
+      behind before after (unit_classes others (n + length before) (map erased_source xs)) (unit_classes given (n + length after) xs)
       (declarations_alike x n x.declarations)
-      (ap (λ (m : ℕ). map loose_class (unit_classes given (n + m) (map erased_source xs))) (as_long before after (declarations_alike x n x.declarations))
+      (ap (λ (m : ℕ). map loose_class (unit_classes others (n + m) (map erased_source xs))) (as_long before after (declarations_alike x n x.declarations))
       ∙ units_alike (n + length after) xs)
 
 called_loose : (library : ℕ) (name : Text) (n : ℕ) (xs : List Class) → class_called library name n (map loose_class xs) ≡ class_called library name n xs
@@ -125,16 +136,20 @@ core_same : (units : List SourceUnit) → core_library (map erased_source units)
 core_same [] = refl
 core_same (x ∷ xs) = λ i. if x.is_core then x.library else core_same xs i
 
-pub classes_same : (given : Given) (units : List SourceUnit) → loose_classes (classes_of given (map erased_source units)) ≡ loose_classes (classes_of given units)
-classes_same given units =
-    let made : List Class = unit_classes given 0 (map erased_source units) in
+-- whatever aliases stand for in the signatures of the erased units
+pub classes_same : (given : Given) (aliases : AliasType) (variables : ℕ → Option Ty) (units : List SourceUnit)
+    → loose_classes (classes_of (signed given aliases variables) (map erased_source units)) ≡ loose_classes (classes_of given units)
+classes_same given aliases variables units =
+    let other : Given = signed given aliases variables in
+    let made : List Class = unit_classes other 0 (map erased_source units) in
     let others : List Class = unit_classes given 0 units in
+    let alike : map loose_class made ≡ map loose_class others = units_alike given aliases variables 0 units in
     (λ i. record {
       classes = map loose_class made;
       object = class_called (core_same units i) (codes "Object") 0 made;
       function = class_called (core_same units i) (codes "Function") 0 made;
     }) ∙ (λ i. record {
-      classes = units_alike given 0 units i;
-      object = called_alike (core_library units) (codes "Object") 0 made others (units_alike given 0 units) i;
-      function = called_alike (core_library units) (codes "Function") 0 made others (units_alike given 0 units) i;
+      classes = alike i;
+      object = called_alike (core_library units) (codes "Object") 0 made others alike i;
+      function = called_alike (core_library units) (codes "Function") 0 made others alike i;
     })

@@ -20,14 +20,15 @@ use Rattle.dart_class.specs.Given.{class_given, source_units}
 use Rattle.lower_table.specs.Rows.{rows_of, starts_of}
 use Rattle.lower_table.specs.Table.{source_of}
 use Rattle.table_accessor.specs.Numbered.{is_induced, start_at, next_in, with_number, number_after, numbered_from, all_numbered, members_numbered, IsNumbered}
+use Rattle.laws_table.specs.Loose.{loose_classes}
 use Rattle.laws_table.specs.Roots.{DeclaresRoots}
 use Rattle.laws_table.specs.Shape.{IsSameShape}
 use Rattle.laws_table.proofs.Rowed.{loose_named}
 use Rattle.laws_table.proofs.Laws.{tables_of_a_shape, no_fault_of_a_shape, no_large_of_a_shape}
-use Rattle.laws_annotation.specs.Erased.{erased_state, erased_scoping, erased_source}
+use Rattle.laws_annotation.specs.Erased.{erased_state, erased_scoping, erased_source, signed}
 use Rattle.laws_annotation.specs.Tables.{loose_member, DifferInSignaturesAlone}
 use Rattle.laws_annotation.proofs.Rows.{classes_same}
-use Rattle.laws_annotation.proofs.Given.{given_same, units_same, source_same}
+use Rattle.laws_annotation.proofs.Given.{erased_aliases, erased_variables, given_same, units_same, source_same}
 
 -- what is read of each item through something that is seen of it
 through : {A B C : Type 0} (f : B → C) (g : A → B) (xs : List A) → map (λ (x : A). f (g x)) xs ≡ map f (map g xs)
@@ -97,36 +98,45 @@ module _ (s : Scoping) (built other k l : Classes) (h : IsSameShape built other)
   }
 
 pub tables_differ : (s : Scoping) (state : State) (built other k l : Classes) → AreDistinct s.texts
-    → DeclaresRoots (classes_of (class_given s) (source_units state)) → IsTableFrom (class_given s) (source_units state) s.texts built → IsNumbered s built k
-    → IsTableFrom (class_given (erased_scoping s)) (source_units (erased_state state)) s.texts other → IsNumbered (erased_scoping s) other l
+    → DeclaresRoots (classes_of (class_given state s) (source_units state)) → IsTableFrom (class_given state s) (source_units state) s.texts built → IsNumbered s built k
+    → IsTableFrom (class_given (erased_state state) (erased_scoping s)) (source_units (erased_state state)) s.texts other → IsNumbered (erased_scoping s) other l
     → DifferInSignaturesAlone s.texts l k
 tables_differ s state built other k l distinct roots from one from_other two =
-    let given : Given = class_given s in
+    let given : Given = class_given state s in
     let units : List SourceUnit = source_units state in
-    let moved : IsTableFrom given (map erased_source units) s.texts other =
-    subst (λ (us : List SourceUnit). IsTableFrom given us s.texts other) (units_same state)
-    (subst (λ (g : Given). IsTableFrom g (source_units (erased_state state)) s.texts other) (given_same s) from_other) in
-    differ s built other k l (tables_of_a_shape given units (map erased_source units) s.texts distinct (classes_same given units) built other roots from moved) one two
+    let given2 : Given = signed given (erased_aliases s state) (erased_variables s state) in
+    let moved : IsTableFrom given2 (map erased_source units) s.texts other =
+    subst (λ (us : List SourceUnit). IsTableFrom given2 us s.texts other) (units_same state)
+    (subst (λ (g : Given). IsTableFrom g (source_units (erased_state state)) s.texts other) (given_same s state) from_other) in
+    differ s built other k l
+    (tables_of_a_shape given given2 units (map erased_source units) s.texts distinct (classes_same given (erased_aliases s state) (erased_variables s state) units)
+    built other roots from moved) one two
 
 -- ---- reasons against headers
 
 module _ (s : Scoping) (state : State) (built : Classes) (distinct : AreDistinct s.texts) where
   abbrev given : Given
-  given = class_given s
+  given = class_given state s
+
+  abbrev given2 : Given
+  given2 = signed given (erased_aliases s state) (erased_variables s state)
 
   abbrev units : List SourceUnit
   units = source_units state
 
+  alike : loose_classes (classes_of given2 (map erased_source units)) ≡ loose_classes (classes_of given units)
+  alike = classes_same given (erased_aliases s state) (erased_variables s state) units
+
   pub no_fault : (f : Fault) → IsTableFrom given units s.texts built
-      → IsFaultFrom (class_given (erased_scoping s)) (source_units (erased_state state)) s.texts f → ⊥
+      → IsFaultFrom (class_given (erased_state state) (erased_scoping s)) (source_units (erased_state state)) s.texts f → ⊥
   no_fault f from against =
-      no_fault_of_a_shape given units (map erased_source units) s.texts distinct (classes_same given units) built f from
-      (subst (λ (us : List SourceUnit). IsFaultFrom given us s.texts f) (units_same state)
-      (subst (λ (g : Given). IsFaultFrom g (source_units (erased_state state)) s.texts f) (given_same s) against))
+      no_fault_of_a_shape given given2 units (map erased_source units) s.texts distinct alike built f from
+      (subst (λ (us : List SourceUnit). IsFaultFrom given2 us s.texts f) (units_same state)
+      (subst (λ (g : Given). IsFaultFrom g (source_units (erased_state state)) s.texts f) (given_same s state) against))
 
   pub no_large_type : (place : Place) → DeclaresRoots (classes_of given units) → IsTableFrom given units s.texts built
-      → IsLargeFrom (class_given (erased_scoping s)) (source_units (erased_state state)) s.texts place → ⊥
+      → IsLargeFrom (class_given (erased_state state) (erased_scoping s)) (source_units (erased_state state)) s.texts place → ⊥
   no_large_type place roots from against =
-      no_large_of_a_shape given units (map erased_source units) s.texts distinct (classes_same given units) built place roots from
-      (subst (λ (us : List SourceUnit). IsLargeFrom given us s.texts place) (units_same state)
-      (subst (λ (g : Given). IsLargeFrom g (source_units (erased_state state)) s.texts place) (given_same s) against))
+      no_large_of_a_shape given given2 units (map erased_source units) s.texts distinct alike built place roots from
+      (subst (λ (us : List SourceUnit). IsLargeFrom given2 us s.texts place) (units_same state)
+      (subst (λ (g : Given). IsLargeFrom g (source_units (erased_state state)) s.texts place) (given_same s state) against))

@@ -1,5 +1,5 @@
 // Laws of erased programs: what of the names of a program doesn't depend on its annotations.
-ghost use Rattle.std.specs.Prelude.{◌≡◌, ℕ, List, map};
+ghost use Rattle.std.specs.Prelude.{◌≡◌, ℕ, List, Option, map};
 ghost use Rattle.class_source.specs.Source.{Given, SourceUnit, classes_of};
 ghost use Rattle.class_fault.specs.declared.fault.Fault.{Fault};
 ghost use Rattle.class_within.specs.Built.{IsFaultFrom, IsLargeFrom, IsTableFrom};
@@ -12,7 +12,7 @@ ghost use Rattle.dart_ir.specs.declared.class.Classes.{Classes};
 ghost use Rattle.dart_lower.specs.Given.{given_of};
 ghost use Rattle.dart_scope.specs.Making.{IsProgram};
 ghost use Rattle.dart_scope.specs.declared.program.Program.{Program};
-ghost use Rattle.laws_annotation.specs.Erased.{erased_scoping, erased_source, erased_state};
+ghost use Rattle.laws_annotation.specs.Erased.{erased_scoping, erased_source, erased_state, signed, unsigned};
 ghost use Rattle.laws_annotation.specs.Loading.{GivenBy, GivenErasedBy};
 ghost use Rattle.laws_table.specs.Loose.{loose_classes};
 ghost use Rattle.laws_table.specs.Roots.{DeclaresRoots};
@@ -30,7 +30,8 @@ ghost use Rattle.scope_mention.specs.Mention.{mentions_of};
 ghost use Rattle.scope_program.specs.Around.{headers_around, members_around};
 ghost use Rattle.scope_program.specs.Program.{IsScoping, Scoping};
 ghost use Rattle.table_accessor.specs.Numbered.{IsNumbered};
-ghost use Rattle.translation.specs.Surroundings.{Text};
+ghost use Rattle.translation.specs.Surroundings.{Text, Ty};
+ghost use Rattle.translation.specs.Types.{AliasType};
 
 /// An erased unit declares exactly what the unit declares, in its order, each with its place, its kind and where it counts
 /// (ECMA-408, 6.1 Scoping), however names are numbered.
@@ -93,17 +94,17 @@ pub fn surroundings_are_kept()
     ensures members { (s : Scoping) → members_around (erased_scoping s) ≡ members_around s }
 {}
 
-/// The classes that erased units declare are those of the units, row by row, but for the types in the signatures of members: whether a
-/// class may be mixed in is the same, too (ECMA-408, 10 Classes, 12 Mixins).
+/// The classes that erased units declare are those of the units, row by row, but for the types in the signatures of members, whatever aliases
+/// stand for there: whether a class may be mixed in is the same, too (ECMA-408, 10 Classes, 12 Mixins).
 pub fn class_rows_are_kept()
-    ensures { (given : Given) (units : List SourceUnit)
-        → loose_classes (classes_of given (map erased_source units)) ≡ loose_classes (classes_of given units) }
+    ensures { (given : Given) (aliases : AliasType) (variables : ℕ → Option Ty) (units : List SourceUnit)
+        → loose_classes (classes_of (signed given aliases variables) (map erased_source units)) ≡ loose_classes (classes_of given units) }
 {}
 
-/// The classes of an erased program are read with the same names and numbers, from the units of the program, erased
-/// (ECMA-408, 10 Classes).
+/// The classes of an erased program are read with the same names and numbers, but for what aliases stand for, from the units of the program,
+/// erased (ECMA-408, 10 Classes).
 pub fn classes_are_read_alike()
-    ensures given { (s : Scoping) → class_given (erased_scoping s) ≡ class_given s }
+    ensures given { (s : Scoping) (state : State) → unsigned (class_given (erased_state state) (erased_scoping s)) ≡ unsigned (class_given state s) }
     ensures units { (state : State) → source_units (erased_state state) ≡ map erased_source (source_units state) }
 {}
 
@@ -118,9 +119,9 @@ pub fn translated_programs_differ_in_annotations()
 /// signatures alone, its implicit accessors included (ECMA-408, 10 Classes).
 pub fn tables_differ_in_signatures()
     ensures { (s : Scoping) (state : State) (built other k l : Classes) → AreDistinct s.texts
-        → DeclaresRoots (classes_of (class_given s) (source_units state))
-        → IsTableFrom (class_given s) (source_units state) s.texts built → IsNumbered s built k
-        → IsTableFrom (class_given (erased_scoping s)) (source_units (erased_state state)) s.texts other
+        → DeclaresRoots (classes_of (class_given state s) (source_units state))
+        → IsTableFrom (class_given state s) (source_units state) s.texts built → IsNumbered s built k
+        → IsTableFrom (class_given (erased_state state) (erased_scoping s)) (source_units (erased_state state)) s.texts other
         → IsNumbered (erased_scoping s) other l → DifferInSignaturesAlone s.texts l k }
 {}
 
@@ -128,10 +129,10 @@ pub fn tables_differ_in_signatures()
 /// large (ECMA-408, 10 Classes, 12 Mixins).
 pub fn headers_get_no_reason()
     ensures fault { (s : Scoping) (state : State) (built : Classes) (f : Fault) → AreDistinct s.texts
-        → IsTableFrom (class_given s) (source_units state) s.texts built
-        → IsFaultFrom (class_given (erased_scoping s)) (source_units (erased_state state)) s.texts f → ⊥ }
+        → IsTableFrom (class_given state s) (source_units state) s.texts built
+        → IsFaultFrom (class_given (erased_state state) (erased_scoping s)) (source_units (erased_state state)) s.texts f → ⊥ }
     ensures large { (s : Scoping) (state : State) (built : Classes) (place : Place) → AreDistinct s.texts
-        → DeclaresRoots (classes_of (class_given s) (source_units state))
-        → IsTableFrom (class_given s) (source_units state) s.texts built
-        → IsLargeFrom (class_given (erased_scoping s)) (source_units (erased_state state)) s.texts place → ⊥ }
+        → DeclaresRoots (classes_of (class_given state s) (source_units state))
+        → IsTableFrom (class_given state s) (source_units state) s.texts built
+        → IsLargeFrom (class_given (erased_state state) (erased_scoping s)) (source_units (erased_state state)) s.texts place → ⊥ }
 {}

@@ -75,27 +75,27 @@ module _ (state : State) (s : Scoping) (more : List Text) (begins : s.texts ≡ 
   abbrev given : p.Given
   given = given_of s state is.classes is.main
 
-  from : IsTableFrom (class_given s) (source_units state) s.texts is.table.built
-  from = as_table (class_given s) (source_units state) s.texts distinct is.table.built is.table.is_built
+  from : IsTableFrom (class_given state s) (source_units state) s.texts is.table.built
+  from = as_table (class_given state s) (source_units state) s.texts distinct is.table.built is.table.is_built
 
-  roots : DeclaresRoots (classes_of (class_given s) (source_units state))
-  roots = built_roots (class_given s) (source_units state) s.texts distinct is.table.built is.table.is_built
+  roots : DeclaresRoots (classes_of (class_given state s) (source_units state))
+  roots = built_roots (class_given state s) (source_units state) s.texts distinct is.table.built is.table.is_built
 
   -- ---- no header of the erased program has a reason
 
-  no_fault_there : (f : Fault) → IsRefusedIn (class_given without) (source_units (erased_state state)) s.kept f → ⊥
+  no_fault_there : (f : Fault) → IsRefusedIn (class_given (erased_state state) without) (source_units (erased_state state)) s.kept f → ⊥
   no_fault_there f refused =
       no_fault s state is.table.built distinct f from
-      (subst (λ (t : List Text). IsFaultFrom (class_given without) (source_units (erased_state state)) t f) (sym begins)
-      (fault_longer s.kept more (class_given without) (source_units (erased_state state)) f
-      (as_fault (class_given without) (source_units (erased_state state)) s.kept own_distinct f refused)))
+      (subst (λ (t : List Text). IsFaultFrom (class_given (erased_state state) without) (source_units (erased_state state)) t f) (sym begins)
+      (fault_longer s.kept more (class_given (erased_state state) without) (source_units (erased_state state)) f
+      (as_fault (class_given (erased_state state) without) (source_units (erased_state state)) s.kept own_distinct f refused)))
 
-  no_large_there : (place : Place) → IsOverlargeIn (class_given without) (source_units (erased_state state)) s.kept place → ⊥
+  no_large_there : (place : Place) → IsOverlargeIn (class_given (erased_state state) without) (source_units (erased_state state)) s.kept place → ⊥
   no_large_there place large =
       no_large_type s state is.table.built distinct place roots from
-      (subst (λ (t : List Text). IsLargeFrom (class_given without) (source_units (erased_state state)) t place) (sym begins)
-      (large_longer s.kept more (class_given without) (source_units (erased_state state)) place
-      (as_large (class_given without) (source_units (erased_state state)) s.kept own_distinct place large)))
+      (subst (λ (t : List Text). IsLargeFrom (class_given (erased_state state) without) (source_units (erased_state state)) t place) (sym begins)
+      (large_longer s.kept more (class_given (erased_state state) without) (source_units (erased_state state)) place
+      (as_large (class_given (erased_state state) without) (source_units (erased_state state)) s.kept own_distinct place large)))
 
   -- ---- the erased program over the program's table of names
 
@@ -107,10 +107,10 @@ module _ (state : State) (s : Scoping) (more : List Text) (begins : s.texts ≡ 
     below = numbered_below (length s.kept) bare table.built l table.numbered
         (table_below (length s.kept) table.is_built.0 table.built table.is_built.2.table table.is_built.1.within)
 
-    from_erased : IsTableFrom (class_given without) (source_units (erased_state state)) s.texts table.built
-    from_erased = subst (λ (t : List Text). IsTableFrom (class_given without) (source_units (erased_state state)) t table.built) (sym begins)
-        (table_longer s.kept more (class_given without) (source_units (erased_state state)) table.built
-        (as_table (class_given without) (source_units (erased_state state)) s.kept own_distinct table.built table.is_built))
+    from_erased : IsTableFrom (class_given (erased_state state) without) (source_units (erased_state state)) s.texts table.built
+    from_erased = subst (λ (t : List Text). IsTableFrom (class_given (erased_state state) without) (source_units (erased_state state)) t table.built) (sym begins)
+        (table_longer s.kept more (class_given (erased_state state) without) (source_units (erased_state state)) table.built
+        (as_table (class_given (erased_state state) without) (source_units (erased_state state)) s.kept own_distinct table.built table.is_built))
 
     differ : DifferInSignaturesAlone s.texts l is.classes
     differ = tables_differ s state is.table.built table.built is.classes l distinct roots from is.table.numbered

@@ -73,28 +73,28 @@ module _ (given : Given) (units : List SourceUnit) (texts : List Text) where
         not_both q l f y.table (refused_like q p (alike q p b a w v) f x)
 
 -- units whose classes differ in the types of signatures alone
-module _ (given : Given) (units others : List SourceUnit) (texts : List Text) (distinct : AreDistinct texts)
-    (same : loose_classes (classes_of given others) ≡ loose_classes (classes_of given units)) where
-  pub tables_of_a_shape : (k l : Classes) → DeclaresRoots (classes_of given units) → IsTableFrom given units texts k → IsTableFrom given others texts l → IsSameShape k l
+module _ (given other : Given) (units others : List SourceUnit) (texts : List Text) (distinct : AreDistinct texts)
+    (same : loose_classes (classes_of other others) ≡ loose_classes (classes_of given units)) where
+  pub tables_of_a_shape : (k l : Classes) → DeclaresRoots (classes_of given units) → IsTableFrom given units texts k → IsTableFrom other others texts l → IsSameShape k l
   tables_of_a_shape k l roots (p, a, v, x) (q, b, w, y) =
-      shape_one p q (same_shape texts distinct given units others same p q a b v w) k l x.table y.table (names_declared given units texts p k x.table a roots)
+      shape_one p q (same_shape texts distinct given other units others same p q a b v w) k l x.table y.table (names_declared given units texts p k x.table a roots)
 
-  pub fault_of_a_shape : (f g : Fault) → IsFaultFrom given units texts f → IsFaultFrom given others texts g → f ≡ g
+  pub fault_of_a_shape : (f g : Fault) → IsFaultFrom given units texts f → IsFaultFrom other others texts g → f ≡ g
   fault_of_a_shape f g (p, a, v, x) (q, b, w, y) =
-      fault_one p f g x (refused_shape p q (same_shape texts distinct given units others same p q a b v w) g y)
+      fault_one p f g x (refused_shape p q (same_shape texts distinct given other units others same p q a b v w) g y)
 
-  pub no_fault_of_a_shape : (k : Classes) (f : Fault) → IsTableFrom given units texts k → IsFaultFrom given others texts f → ⊥
+  pub no_fault_of_a_shape : (k : Classes) (f : Fault) → IsTableFrom given units texts k → IsFaultFrom other others texts f → ⊥
   no_fault_of_a_shape k f (p, a, v, x) (q, b, w, y) =
-      not_both p k f x.table (refused_shape p q (same_shape texts distinct given units others same p q a b v w) f y)
+      not_both p k f x.table (refused_shape p q (same_shape texts distinct given other units others same p q a b v w) f y)
 
-  pub large_of_a_shape : (place other : Place) → DeclaresRoots (classes_of given units) → IsLargeFrom given units texts place → IsLargeFrom given others texts other
-      → place ≡ other
-  large_of_a_shape place other roots (p, a, v, (k, x)) (q, b, w, (l, y)) =
-      same_Some place other
-      (found_one p q (same_shape texts distinct given units others same p q a b v w) k l (Some place) (Some other) x y (names_declared given units texts p k x.table a roots))
+  pub large_of_a_shape : (place at : Place) → DeclaresRoots (classes_of given units) → IsLargeFrom given units texts place → IsLargeFrom other others texts at
+      → place ≡ at
+  large_of_a_shape place at roots (p, a, v, (k, x)) (q, b, w, (l, y)) =
+      same_Some place at
+      (found_one p q (same_shape texts distinct given other units others same p q a b v w) k l (Some place) (Some at) x y (names_declared given units texts p k x.table a roots))
 
-  pub no_large_of_a_shape : (k : Classes) (place : Place) → DeclaresRoots (classes_of given units) → IsTableFrom given units texts k → IsLargeFrom given others texts place → ⊥
+  pub no_large_of_a_shape : (k : Classes) (place : Place) → DeclaresRoots (classes_of given units) → IsTableFrom given units texts k → IsLargeFrom other others texts place → ⊥
   no_large_of_a_shape k place roots (p, a, v, x) (q, b, w, (l, y)) =
       let e : None ≡ Some place =
-      found_one p q (same_shape texts distinct given units others same p q a b v w) k l None (Some place) x y (names_declared given units texts p k x.table a roots) in
+      found_one p q (same_shape texts distinct given other units others same p q a b v w) k l None (Some place) x y (names_declared given units texts p k x.table a roots) in
       absurd (cc)

@@ -53,10 +53,10 @@ module _ (texts : List Text) where
         classes_shaped p.declarations.items ∙ ap (map shape.loose_class) (sym (told.classes_back texts distinct p within))
         ∙ classes_told (map (source.class texts) p.declarations.items)
 
-    pub same_shape : (given : Given) (units others : List SourceUnit) → l.loose_classes (classes_of given others) ≡ l.loose_classes (classes_of given units)
-        → (p q : Program) → source.IsSource given units texts p → source.IsSource given others texts q → AreWithin (length texts) p → AreWithin (length texts) q
+    pub same_shape : (given other : Given) (units others : List SourceUnit) → l.loose_classes (classes_of other others) ≡ l.loose_classes (classes_of given units)
+        → (p q : Program) → source.IsSource given units texts p → source.IsSource other others texts q → AreWithin (length texts) p → AreWithin (length texts) q
         → shape.program p ≡ shape.program q
-    same_shape given units others alike p q a b v w =
+    same_shape given other units others alike p q a b v w =
         let rows : map l.loose_class (map (source.class texts) p.declarations.items) ≡ map l.loose_class (map (source.class texts) q.declarations.items) =
         ap (map l.loose_class) a.classes ∙ sym (ap (λ (z : r.Classes). z.classes) alike) ∙ ap (map l.loose_class) (sym b.classes) in
         let classes = shaped p v ∙ ap (map (told.class texts)) rows ∙ sym (shaped q w) in

@@ -7,7 +7,6 @@ use Rattle.std.proofs.lemmas.List.{take_all}
 use Rattle.std.proofs.lemmas.List.Concat.{flat_map-append}
 use Rattle.std.proofs.lemmas.Option.{same_Some, slice_get_within}
 use Rattle.class_order.specs.Rows.{row_at}
-use Rattle.class_order.specs.declared.rows.Row.{Row}
 use Rattle.core_names.specs.Names as n
 use Rattle.core_names.specs.Names.{ty_names, tys_names, named_tys_names, ty_option_names}
 use Rattle.core_program.specs.ProgramView as v
@@ -26,8 +25,8 @@ use Rattle.class_fault.specs.declared.program.Declaration.{Declaration}
 use Rattle.class_fault.specs.declared.program.Program.{Program}
 use Rattle.class_fault.specs.Program.{declaration_at}
 use Rattle.class_table.specs.Renumbered.{renumbered, renumbered_all, renumbered_named, bound_ty, renumbered_bound}
-use Rattle.class_table.specs.Rows.{parameters_from, own_superclass, row_superclass, row_mixin, row_interfaces, renumbered_types, is_own, IsRow, IsTable}
-use Rattle.class_table.specs.Members.{Described, described, described_at, descriptions, declared_in, mixed_in, mixin_members, row_members, members_in, member_count, AreMembers}
+use Rattle.class_table.specs.Rows.{parameters_from, own_superclass, row_superclass, row_mixin, row_interfaces, renumbered_types, is_own, IsRow}
+use Rattle.class_table.specs.Members.{Described, described, described_at, descriptions, declared_in, mixed_in, mixin_members, row_members, members_in, member_count}
 use Rattle.class_table.specs.Built.{IsBuilt}
 use Rattle.class_table.proofs.Lists.{some_in, slice_get_take}
 use Rattle.class_table.proofs.Membered.{get_map}

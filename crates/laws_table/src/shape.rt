@@ -27,27 +27,27 @@ pub fn faults_are_of_a_shape()
 
 /// So it is of units, under a table of names: where their classes differ in the types of signatures alone, so do their tables.
 pub fn units_have_tables_of_a_shape()
-    ensures { (given : Given) (units others : List SourceUnit) (texts : List Text) (k l : Classes) → AreDistinct texts
-        → loose_classes (classes_of given others) ≡ loose_classes (classes_of given units) → DeclaresRoots (classes_of given units)
-        → IsTableFrom given units texts k → IsTableFrom given others texts l → IsSameShape k l }
+    ensures { (given other : Given) (units others : List SourceUnit) (texts : List Text) (k l : Classes) → AreDistinct texts
+        → loose_classes (classes_of other others) ≡ loose_classes (classes_of given units) → DeclaresRoots (classes_of given units)
+        → IsTableFrom given units texts k → IsTableFrom other others texts l → IsSameShape k l }
 {}
 
 /// And they are refused for one header type, for one reason, and only where there is no table.
 pub fn units_have_faults_of_a_shape()
-    ensures one { (given : Given) (units others : List SourceUnit) (texts : List Text) (f g : Fault) → AreDistinct texts
-        → loose_classes (classes_of given others) ≡ loose_classes (classes_of given units)
-        → IsFaultFrom given units texts f → IsFaultFrom given others texts g → f ≡ g }
-    ensures no_table { (given : Given) (units others : List SourceUnit) (texts : List Text) (k : Classes) (f : Fault) → AreDistinct texts
-        → loose_classes (classes_of given others) ≡ loose_classes (classes_of given units)
-        → IsTableFrom given units texts k → IsFaultFrom given others texts f → ⊥ }
+    ensures one { (given other : Given) (units others : List SourceUnit) (texts : List Text) (f g : Fault) → AreDistinct texts
+        → loose_classes (classes_of other others) ≡ loose_classes (classes_of given units)
+        → IsFaultFrom given units texts f → IsFaultFrom other others texts g → f ≡ g }
+    ensures no_table { (given other : Given) (units others : List SourceUnit) (texts : List Text) (k : Classes) (f : Fault) → AreDistinct texts
+        → loose_classes (classes_of other others) ≡ loose_classes (classes_of given units)
+        → IsTableFrom given units texts k → IsFaultFrom other others texts f → ⊥ }
 {}
 
 /// And of both one header type is the first that is too large, and only where there is no table.
 pub fn units_have_large_types_of_a_shape()
-    ensures one { (given : Given) (units others : List SourceUnit) (texts : List Text) (place other : Place) → AreDistinct texts
-        → loose_classes (classes_of given others) ≡ loose_classes (classes_of given units) → DeclaresRoots (classes_of given units)
-        → IsLargeFrom given units texts place → IsLargeFrom given others texts other → place ≡ other }
-    ensures no_table { (given : Given) (units others : List SourceUnit) (texts : List Text) (k : Classes) (place : Place) → AreDistinct texts
-        → loose_classes (classes_of given others) ≡ loose_classes (classes_of given units) → DeclaresRoots (classes_of given units)
-        → IsTableFrom given units texts k → IsLargeFrom given others texts place → ⊥ }
+    ensures one { (given other : Given) (units others : List SourceUnit) (texts : List Text) (place at : Place) → AreDistinct texts
+        → loose_classes (classes_of other others) ≡ loose_classes (classes_of given units) → DeclaresRoots (classes_of given units)
+        → IsLargeFrom given units texts place → IsLargeFrom other others texts at → place ≡ at }
+    ensures no_table { (given other : Given) (units others : List SourceUnit) (texts : List Text) (k : Classes) (place : Place) → AreDistinct texts
+        → loose_classes (classes_of other others) ≡ loose_classes (classes_of given units) → DeclaresRoots (classes_of given units)
+        → IsTableFrom given units texts k → IsLargeFrom other others texts place → ⊥ }
 {}
