@@ -1,6 +1,7 @@
 // What class declarations are read in, and where classes and declarations stand.
-ghost use Rattle.std.specs.Prelude.{◌≡◌, Some, length, true, false};
-ghost use Rattle.lower_leaf.specs.Around.{meaning};
+ghost use Rattle.std.specs.Prelude.{◌≡◌, ◌↔◌, Contains, IfSome, IsSome, Some, length, true, false};
+ghost use Rattle.std.specs.Str.{IsUtf8};
+ghost use Rattle.lower_leaf.specs.Around.{meaning, text};
 ghost use Rattle.scope_program.specs.Around.{known, known_names};
 ghost use Rattle.scope_program.specs.Places.{at_place};
 ghost use Rattle.dart_class.specs.Around.{around_of, class_header, class_inside, class_names, library_names, library_of, names_at, number_of};
@@ -134,7 +135,11 @@ fn library_at(scopes: &ProgramScopes, outer: Outer) -> u32
 impl<'a> Surroundings for DeclaredScopes<'a> {
     ghost around = { around_of };
 
-    fn find(&self, name: &[u8]) -> Option<Name> {
+    /// The name of the text: every text that the table has is found.
+    fn find(&self, name: &[u8]) -> Option<Name>
+        ensures found { IfSome result (λ found. text (around_of self.now) found ≡ name.now) }
+        ensures known { IsUtf8 name.now → (IsSome result ↔ Contains self.now.scopes.now.names name.now) }
+    {
         match from_utf8(name) {
             Ok(text) => self.scopes.names.find(text),
             Err(_) => None,
@@ -249,7 +254,11 @@ impl<'a> Positions for DeclaredScopes<'a> {
         }
     }
 
-    fn number_at(&self, place: Place) -> Option<DeclId> {
+    /// The number of the declaration whose name stands there: every place that has one is found.
+    fn number_at(&self, place: Place) -> Option<DeclId>
+        ensures found { IfSome result (λ found. found.0 ≡ number_of self.now.scopes.now place) }
+        ensures known { IsSome result ↔ IsSome (at_place self.now.scopes.now.places place) }
+    {
         let number = self.scopes.number_at(place)?;
         Some(DeclId(number))
     }
