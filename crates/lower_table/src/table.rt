@@ -1,8 +1,9 @@
 // What the bodies of a program are translated in, with classes numbered as rows of its table.
-ghost use Rattle.std.specs.Prelude.{◌≡◌, [], IfOk, bytes_eq, map, slice_get, unwrap_or};
+ghost use Rattle.std.specs.Prelude.{◌≡◌, ◌↔◌, [], Contains, IfOk, IfSome, IsSome, bytes_eq, map, slice_get, unwrap_or};
 ghost use Rattle.std.specs.Option.{option_map};
+ghost use Rattle.std.specs.Str.{IsUtf8};
 ghost use Rattle.lower_added.specs.Written.{generative};
-ghost use Rattle.lower_leaf.specs.Around.{constructor};
+ghost use Rattle.lower_leaf.specs.Around.{constructor, text};
 ghost use Rattle.lower_table.specs.Made.{around_made, index_made, meanings_made};
 ghost use Rattle.lower_table.specs.Rows.{found_at};
 ghost use Rattle.lower_table.specs.Table.{constructor_called, constructor_written, table_around};
@@ -114,7 +115,11 @@ impl<'a> TableScopes<'a> {
 impl<'a> Surroundings for TableScopes<'a> {
     ghost around = { around_made };
 
-    fn find(&self, name: &[u8]) -> Option<Name> {
+    /// The name of the text: every text that the table has is found.
+    fn find(&self, name: &[u8]) -> Option<Name>
+        ensures found { IfSome result (λ found. text (around_made self.now) found ≡ name.now) }
+        ensures known { IsUtf8 name.now → (IsSome result ↔ Contains self.now.scopes.now.names name.now) }
+    {
         match from_utf8(name) {
             Err(_) => None,
             Ok(text) => self.scopes.names.find(text),
