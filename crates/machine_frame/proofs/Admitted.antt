@@ -78,6 +78,17 @@ pub is_dynamic : (a : Around) (c : ℕ) (t : Ty) → t ≡ dynamic → is_formed
 is_dynamic a c t is f args =
     ap (λ t. is_of_type (checking_of a) (of c []) (instance (of_list args) t)) is ∙ dynamic_above a.program.now.classes c f
 
+-- the same of a type into which nothing is put
+pub is_reached_alone : (a : Around) (c d levels : ℕ) (t : Ty) → t ≡ plain d → levels ≤ 3 → IsReached a.program.now.classes c d levels
+    → is_formed a.program.now.classes (plain c) ≡ true → is_formed a.program.now.classes (plain d) ≡ true
+    → is_of_type (checking_of a) (of c []) t ≡ true
+is_reached_alone a c d levels t is few below formed formed_too =
+    ap (is_of_type (checking_of a) (of c [])) is ∙ class_above a.program.now.classes c d levels few below formed formed_too
+
+pub is_dynamic_alone : (a : Around) (c : ℕ) (t : Ty) → t ≡ dynamic → is_formed a.program.now.classes (class c nil) ≡ true
+    → is_of_type (checking_of a) (of c []) t ≡ true
+is_dynamic_alone a c t is f = ap (is_of_type (checking_of a) (of c [])) is ∙ dynamic_above a.program.now.classes c f
+
 pub no_types : (ts : List TypeRef) → length ts ≡ 0 → ts ≡ []
 no_types [] e = refl
 no_types (t ∷ ts) e = absurd (cc)

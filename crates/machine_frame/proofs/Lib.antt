@@ -15,3 +15,4 @@ pub mod Types
 pub mod Bodies
 pub mod Beside
 pub mod Plain
+pub mod Itself

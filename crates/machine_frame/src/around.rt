@@ -13,9 +13,6 @@ use thiserror::Error;
 pub enum Fault {
     #[error("out of memory")]
     Memory,
-    /// It came to what the machine does not carry out yet.
-    #[error("not carried out yet")]
-    NotBuilt,
 }
 
 impl From<AllocError> for Fault {

@@ -5,6 +5,7 @@ pub mod around;
 pub mod moves;
 pub mod objects;
 pub mod run;
+pub mod same;
 pub mod sites;
 pub mod stacks;
 pub mod variables;

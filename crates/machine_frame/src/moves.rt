@@ -1,21 +1,17 @@
 // Moves of the machine that all forms share.
-ghost use Rattle.std.specs.Prelude.{◌≡◌, ◌<◌, ◌+◌, Some, None, true, false, length, IfOk};
+ghost use Rattle.std.specs.Prelude.{◌≡◌, ◌<◌, ◌+◌, IfOk};
 ghost use Rattle.dart_ir.specs.declared.value.Value.TheVariants.{Null};
 ghost use Rattle.core_program.specs.View as v;
 ghost use Rattle.evaluation.specs.State.{Outcome, Completion, answer, ends};
-ghost use Rattle.evaluation.specs.Sequence.{on_answer, branch};
 ghost use Rattle.evaluation.specs.Evaluation.{eval, part};
-ghost use Rattle.evaluation.specs.Variables as x;
-ghost use Rattle.machine_frame.specs.Outside.{setting_of, world_in};
+ghost use Rattle.machine_frame.specs.Outside.{world_in};
 ghost use Rattle.machine_frame.specs.Frames.{seen, below_of, below, resume, resumed, going, does, frame_weight, room, work, mute};
 
 use crate::around::{Around, Fault};
-use crate::run::{Control, Exit, Frame, Limit, Run};
+use crate::run::{Control, Exit, Frame, Run};
 use crate::stacks::push_frame;
-use crate::variables::declare;
 use core_program::form::{Core, Part};
 use dart_ir::value::Value;
-use machine_lookup::row::is_true;
 
 /// Puts a frame to wait for a form.
 #[inline(always)]
@@ -53,41 +49,5 @@ pub fn enter_part<'a>(run: &mut Run<'a>, a: Around<'a>, one: &'a Part) -> Result
     match one {
         Part::Missing => Ok(answer(run, a, Value::Null)),
         Part::Given(core) => Ok(Control::Enter(core)),
-    }
-}
-
-/// One of two parts, by a value.
-#[inline(always)]
-pub fn choose<'a>(
-    run: &mut Run<'a>,
-    a: Around<'a>,
-    value: Value,
-    first: &'a Part,
-    second: &'a Part,
-) -> Result<Control<'a>, Fault>
-    ensures meaning { IfOk result (λ c. going a.entry run.new c ≡ does a.entry run.old (λ w. branch value (part (v.part first.now) w Null) (part (v.part second.now) w Null))) }
-    ensures less { IfOk result (λ c. work run.new c < room run.old + 6) }
-{
-    if is_true(value) {
-        enter_part(run, a, first)
-    } else {
-        enter_part(run, a, second)
-    }
-}
-
-/// A variable for a value, and then the body in which it stands.
-pub fn bind_let<'a>(
-    run: &mut Run<'a>,
-    a: Around<'a>,
-    var: u32,
-    value: Value,
-    body: &'a Core,
-) -> Result<Control<'a>, Fault>
-    ensures meaning { IfOk result (λ c. going a.entry run.new c ≡ does a.entry run.old (λ w st. on_answer (λ _. eval (v.core body.now) w) (x.declare w.setting var value st))) }
-    ensures less { IfOk result (λ c. work run.new c < room run.old + 3) }
-{
-    match declare(run, a, var, value)? {
-        None => Ok(Control::Leave(Exit::Over(Limit::OutOfObjects))),
-        Some(_) => Ok(Control::Enter(body)),
     }
 }

@@ -2,8 +2,9 @@
 #![tactic(auto)]
 
 ghost use Rattle.std.specs.Prelude.{◌≡◌, [], List, Some, None, true, false, IfSome, MatchOption, slice_get};
-ghost use Rattle.dart_ir.specs.Object.{heap_object, of};
+ghost use Rattle.dart_ir.specs.Object.{heap_object, HeadTy, of};
 ghost use Rattle.dart_ir.specs.Ty.{Ty, ty, nil, of_list, class as class_of};
+ghost use Rattle.dart_ir.specs.declared.value.Value.{Value as ValueOf};
 ghost use Rattle.dart_store.specs.Heap.{Heap};
 ghost use Rattle.dart_type.specs.Instance.{instance};
 ghost use Rattle.type_test.specs.Test.{is_formed};
@@ -17,6 +18,7 @@ ghost use Rattle.machine_frame.specs.Outside.{checking_of, setting_of, IsAdmitte
 
 use crate::around::Around;
 use crate::run::Run;
+use crate::same::has_type;
 use core_program::program::{CoreProgram, Site};
 use dart_ir::class::ClassInfo;
 use dart_ir::kind::SiteKind;
@@ -25,6 +27,7 @@ use dart_ir::types::TypeRef;
 use dart_ir::value::Value;
 
 /// The class of a value that has one without type arguments. `None` says nothing.
+#[inline(always)]
 fn plain_class(run: &Run, a: Around, value: Value) -> Option<u32>
     ensures { IfSome result (λ c. head_of (setting_of a.entry) run.now.store value ≡ of c []) }
 {
@@ -45,6 +48,7 @@ fn plain_class(run: &Run, a: Around, value: Value) -> Option<u32>
 }
 
 /// The same of an object.
+#[inline(always)]
 fn plain_object_class(a: Around, object: &Object) -> Option<u32>
     ensures { IfSome result (λ c. (h : Heap) → object_head (setting_of a.entry) h (Some (heap_object object.now)) ≡ of c []) }
 {
@@ -60,6 +64,7 @@ fn plain_object_class(a: Around, object: &Object) -> Option<u32>
 }
 
 /// Whether a class is listed and has no type parameters.
+#[inline(always)]
 fn is_plain(a: Around, class: u32) -> bool
     ensures { result ≡ true → is_formed a.entry.program.now.classes (class_of class nil) ≡ true }
 {
@@ -73,6 +78,7 @@ fn is_plain(a: Around, class: u32) -> bool
 const LEVELS: u32 = 3;
 
 /// What the table of classes has of a class.
+#[inline(always)]
 fn class_info<'a>(program: &'a CoreProgram, class: u32) -> Option<&'a ClassInfo>
     ensures { MatchOption result (slice_get program.now.classes.classes.items class ≡ None)
         (λ x. slice_get program.now.classes.classes.items class ≡ Some x.now) }
@@ -81,6 +87,7 @@ fn class_info<'a>(program: &'a CoreProgram, class: u32) -> Option<&'a ClassInfo>
 }
 
 /// The superclass of a class, where it is given without type arguments. `None` says nothing.
+#[inline(always)]
 fn plain_superclass(a: Around, class: u32) -> Option<u32>
     ensures { IfSome result (λ e. IsPlainSuperclass a.entry.program.now.classes class e) }
 {
@@ -117,8 +124,10 @@ fn reaches(a: Around, class: u32, wanted: u32, levels: u32) -> bool
 }
 
 /// Whether a class without type arguments is below a type by its superclasses, or the type is `dynamic`. `false` says nothing.
+#[inline(always)]
 fn is_of(a: Around, class: u32, wanted: &TypeRef) -> bool
-    ensures { result ≡ true → (args : List Ty) → spec.is_of_type (checking_of a.entry) (of class []) (instance (of_list args) (ty wanted.now)) ≡ true }
+    ensures given { result ≡ true → (args : List Ty) → spec.is_of_type (checking_of a.entry) (of class []) (instance (of_list args) (ty wanted.now)) ≡ true }
+    ensures alone { result ≡ true → spec.is_of_type (checking_of a.entry) (of class []) (ty wanted.now) ≡ true }
 {
     match wanted {
         TypeRef::Dynamic => is_plain(a, class),
@@ -135,7 +144,21 @@ fn is_of(a: Around, class: u32, wanted: &TypeRef) -> bool
     }
 }
 
+/// Whether a value surely is null or of a type in which no type parameter stands. `false` says nothing.
+pub fn surely_is(run: &Run, a: Around, value: Value, wanted: &TypeRef) -> bool
+    ensures { result ≡ true → spec.is_of_type (checking_of a.entry) (head_of (setting_of a.entry) run.now.store value) (ty wanted.now) ≡ true }
+{
+    if let Value::Null = value {
+        return true;
+    }
+    match plain_class(run, a, value) {
+        None => false,
+        Some(class) => is_of(a, class, wanted),
+    }
+}
+
 /// Whether a value surely has the type that a site asks for, where it asks for one. `false` says nothing.
+#[inline(always)]
 fn surely_has_type(run: &Run, a: Around, required: &Option<TypeRef>, value: Value) -> bool
     ensures { result ≡ true → (args : List Ty) → spec.passes_type (checking_of a.entry) (p.ty_option required.now) (head_of (setting_of a.entry) run.now.store value) args ≡ true }
 {
@@ -146,12 +169,13 @@ fn surely_has_type(run: &Run, a: Around, required: &Option<TypeRef>, value: Valu
         return true;
     }
     match plain_class(run, a, value) {
-        None => false,
+        None => has_type(run, a, value, wanted),
         Some(class) => is_of(a, class, wanted),
     }
 }
 
 /// Whether a value surely passes the check of a site. `false` says nothing.
+#[inline(always)]
 pub fn surely_passes(run: &Run, a: Around, site: &Site, value: Value) -> bool
     ensures { result ≡ true → (args : List Ty) → spec.passes_kind (checking_of a.entry) site.now.kind (p.ty_option site.now.required) (head_of (setting_of a.entry) run.now.store value) args ≡ true }
 {
@@ -171,6 +195,7 @@ pub fn surely_passes(run: &Run, a: Around, site: &Site, value: Value) -> bool
 }
 
 /// Whether a value is a boolean.
+#[inline(always)]
 fn is_boolean(value: Value) -> bool
     ensures { result ≡ true → (a : AroundOf) → (h : Heap) → head_of (setting_of a) h value ≡ of a.setup.now.known.bool_class.0 [] }
 {
@@ -192,6 +217,7 @@ pub fn admits(run: &Run, a: Around, number: u32, value: Value) -> bool
 }
 
 /// The site of a number.
+#[inline(always)]
 pub fn site_at<'a>(program: &'a CoreProgram, number: u32) -> Option<&'a Site>
     ensures { MatchOption result (site_at (p.program program.now) number ≡ None)
         (λ x. site_at (p.program program.now) number ≡ Some (p.site x.now)) }
@@ -199,7 +225,52 @@ pub fn site_at<'a>(program: &'a CoreProgram, number: u32) -> Option<&'a Site>
     program.sites.get(number as usize)
 }
 
+/// Whether every value goes on from a site: in production, or where the site asks for nothing. `false` says nothing.
+#[inline(always)]
+pub fn admits_all(a: Around, number: u32) -> bool
+    ensures { result ≡ true → (h : Heap) → (v : ValueOf) → IsAdmitted a.entry h number v }
+{
+    match a.setup.annotated {
+        None => true,
+        Some(program) => admits_all_by(a, program, number),
+    }
+}
+
 /// The same in checked mode.
+fn admits_all_by<'a>(a: Around<'a>, program: &'a CoreProgram, number: u32) -> bool
+    requires checked { a.setup.now.annotated ≡ Some program }
+    ensures { result ≡ true → (h : Heap) → (v : ValueOf) → IsAdmitted a.entry h number v }
+{
+    match site_at(program, number) {
+        None => true,
+        Some(site) => asks_nothing(site),
+    }
+}
+
+/// Whether every value passes the check of a site.
+#[inline(always)]
+fn asks_nothing(site: &Site) -> bool
+    ensures { result ≡ true → (c : spec.Checking) → (head : HeadTy) → (args : List Ty) → spec.passes_kind c site.now.kind (p.ty_option site.now.required) head args ≡ true }
+{
+    if site.required.is_some() {
+        return false;
+    }
+    match site.kind {
+        SiteKind::VarInit => true,
+        SiteKind::Assign => true,
+        SiteKind::FieldStore => true,
+        SiteKind::FieldInit => true,
+        SiteKind::Param => true,
+        SiteKind::Return => true,
+        SiteKind::Element => true,
+        SiteKind::Condition => false,
+        SiteKind::NullCondition => false,
+        SiteKind::Bound => false,
+        SiteKind::SwitchClass => false,
+    }
+}
+
+/// Whether a value surely goes on from a site in checked mode. `false` says nothing.
 fn admits_by<'a>(
     run: &Run,
     a: Around<'a>,

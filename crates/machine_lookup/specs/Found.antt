@@ -6,7 +6,7 @@ use Rattle.evaluation.specs.Classes.{member}
 use Rattle.machine_lookup.specs.declared.linked.Found.{Found}
 use Rattle.machine_lookup.specs.declared.shapes.Reads.{Reads}
 use Rattle.machine_lookup.specs.declared.shapes.Reads.TheVariants as r
-use Rattle.machine_lookup.specs.Shapes.{native_of_member, Reading, a_field, a_native, reading_of_member, writing_of_member}
+use Rattle.machine_lookup.specs.Shapes.{native_of_member, site_of_member, Reading, a_field, a_native, reading_of_member, writing_of_member}
 
 abbrev pub reading : Reads → Reading
 reading (r.Field i) = a_field i
@@ -17,6 +17,7 @@ pub record IsFound (p : Program ℕ) (f : Found) : Type 0 where
   pub method : f.method ≡ member p (Some f.class) f.name Method
   pub getter : f.getter ≡ member p (Some f.class) f.name Getter
   pub setter : f.setter ≡ member p (Some f.class) f.name Setter
+  pub operand : f.operand ≡ site_of_member p f.method
   pub operator : IfSome f.operator (λ id. native_of_member p f.method ≡ Some id)
   pub reads : IfSome f.reads (λ x. reading_of_member p f.getter ≡ Some (reading x))
   pub writes : IfSome f.writes (λ i. writing_of_member p f.setter ≡ Some i)

@@ -71,6 +71,24 @@ native_of_member p (Some m) = native_of_function (function_at p (member_function
 abbrev pub operator : Program ℕ → ℕ → ℕ → Option NativeId
 operator p k name = native_of_member p (member p (Some k) name Method)
 
+-- ---- the site of an operator's parameter
+
+abbrev pub site_of_parameters : List (Parameter ℕ) → Option ℕ
+site_of_parameters [] = None
+site_of_parameters (q ∷ qs) = Some q.site
+
+abbrev pub site_of_function : Option (Function ℕ) → Option ℕ
+site_of_function None = None
+site_of_function (Some f) = site_of_parameters f.parameters
+
+abbrev pub site_of_member : Program ℕ → Option ℕ → Option ℕ
+site_of_member p None = None
+site_of_member p (Some m) = site_of_function (function_at p (member_function (member_at p m)))
+
+-- the site of the first parameter of the method of the name on objects of a class
+abbrev pub operand_site : Program ℕ → ℕ → ℕ → Option ℕ
+operand_site p k name = site_of_member p (member p (Some k) name Method)
+
 -- ---- natives of `this`, and fields that are read
 
 -- what a getter is that answers at once

@@ -6,7 +6,9 @@ ghost use Rattle.machine_lookup.specs.Found.{IsFound, AreFound};
 
 use crate::member::{member, superclass};
 use crate::program::{class_at, member_at};
-use crate::shapes::{Reads, native_of_member, reading_of_member, writing_of_member};
+use crate::shapes::{
+    Reads, native_of_member, reading_of_member, site_of_member, writing_of_member,
+};
 use core_program::program::CoreProgram;
 use dart_ir::class::Role;
 use dart_ir::native::NativeId;
@@ -22,6 +24,8 @@ pub struct Found {
     pub method: Option<u32>,
     pub getter: Option<u32>,
     pub setter: Option<u32>,
+    /// The site of the method's first parameter.
+    pub operand: Option<u32>,
     /// The native of `this` and the parameter that the method is.
     pub operator: Option<NativeId>,
     /// What the getter reads.
@@ -190,6 +194,7 @@ fn look_up(program: &CoreProgram, class: u32, name: u32) -> Found
         method,
         getter,
         setter,
+        operand: site_of_member(program, method),
         operator: native_of_member(program, method),
         reads: reading_of_member(program, getter),
         writes: writing_of_member(program, setter),

@@ -5,7 +5,7 @@ ghost use Rattle.core_program.specs.ProgramView as p;
 ghost use Rattle.core_program.specs.View as v;
 ghost use Rattle.core_program.specs.declared.form.Form.TheViews.{out-Arguments, out-Core};
 ghost use Rattle.evaluation.specs.Classes.{function_at, member_at, member_function};
-ghost use Rattle.machine_lookup.specs.Shapes.{is_this, is_this_leaf, reads, reads_leaf, native_of_form, native_of_body, native_of, native_of_member, reading_of_leaf, reading_of_row, reading_of_form, reading_of_body, reading_over, reading_of_member, field_written, writing_of_form, writing_of_body, writing_of, writing_of_member};
+ghost use Rattle.machine_lookup.specs.Shapes.{is_this, is_this_leaf, reads, reads_leaf, native_of_form, native_of_body, native_of, native_of_member, site_of_member, reading_of_leaf, reading_of_row, reading_of_form, reading_of_body, reading_over, reading_of_member, field_written, writing_of_form, writing_of_body, writing_of, writing_of_member};
 ghost use Rattle.machine_lookup.specs.Found.{reading};
 
 use crate::program::{function_at, member_function};
@@ -179,6 +179,22 @@ fn native_of(function: &Function) -> Option<NativeId>
         None => None,
         Some(parameter) => native_of_body(&function.body, parameter.var),
     }
+}
+
+/// The site of the first parameter of a method.
+pub fn site_of_member(program: &CoreProgram, member: Option<u32>) -> Option<u32>
+    ensures { result ≡ site_of_member (p.program program.now) member }
+{
+    let Some(number) = member else {
+        return None;
+    };
+    let Some(function) = function_at(program, member_function(program, number)) else {
+        return None;
+    };
+    let Some((parameter, _)) = function.parameters.as_slice().split_first() else {
+        return None;
+    };
+    Some(parameter.site.0)
 }
 
 /// The native of `this` and its parameter that a method is.

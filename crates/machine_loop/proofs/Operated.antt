@@ -55,8 +55,8 @@ use Rattle.machine_frame.proofs.Steps.{binding_begins, form_enters}
 use Rattle.machine_lookup.specs.Rows.{but_last}
 use Rattle.machine_lookup.specs.declared.linked.Found.{Found}
 use Rattle.machine_lookup.specs.Found.{IsFound}
-use Rattle.machine_lookup.specs.Shapes.{is_this, is_this_leaf, reads, reads_leaf, are_operands, native_of_job, native_of_body, native_over, is_none, native_of_function, native_of_member, operator}
-use Rattle.machine_loop.specs.Operator.{AnswersAtOnce, IsTaken, site_of_member, site_of_function, site_of_parameters}
+use Rattle.machine_lookup.specs.Shapes.{is_this, is_this_leaf, reads, reads_leaf, are_operands, native_of_job, native_of_body, native_over, is_none, native_of_function, native_of_member, operator, operand_site, site_of_member, site_of_function, site_of_parameters}
+use Rattle.machine_loop.specs.Operator.{AnswersAtOnce, IsTaken}
 
 -- so many steps less
 abbrev less : ℕ → State → State
@@ -282,6 +282,13 @@ found_operator p f k name id is_found class named e =
     sym (ap (λ k. native_of_member p (member p (Some k) f.name Method)) class ∙ ap (λ n. native_of_member p (member p (Some k) n Method)) named)
     ∙ sym (ap (native_of_member p) is_found.method)
     ∙ subst (λ o. IfSome o (λ id. native_of_member p f.method ≡ Some id)) e is_found.operator
+
+-- the site of its parameter
+pub found_operand : (p : Program ℕ) (f : Found) (k name : ℕ) → IsFound p f → f.class ≡ k → f.name ≡ name → operand_site p k name ≡ f.operand
+found_operand p f k name is_found class named =
+    sym (ap (λ k. site_of_member p (member p (Some k) f.name Method)) class ∙ ap (λ n. site_of_member p (member p (Some k) n Method)) named)
+    ∙ sym (ap (site_of_member p) is_found.method)
+    ∙ sym is_found.operand
 
 -- the answer, where the operands at the end are no longer needed
 pub row_answered : (around : Around) (r : Run) (count left : ℕ) (u : Value) (m : World → Meaning)

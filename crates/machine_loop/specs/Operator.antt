@@ -1,19 +1,19 @@
 -- Means of proof, which no public contract cites. Natives that answer at once, getters that read, and sites that are passed by (ECMA-408,
 -- 9.4 External Functions, 10.2 Getters).
-use Rattle.std.specs.Prelude.{◌≡◌, ℕ, List, [], ◌∷◌, Option, Some, None}
+use Rattle.std.specs.Prelude.{◌≡◌, ℕ, [], ◌∷◌, Some, None}
 use Rattle.dart_base.specs.declared.place.Place.{Place}
 use Rattle.dart_ir.specs.declared.class.Role.TheVariants.{Method, Getter}
 use Rattle.dart_ir.specs.declared.native.NativeId.{NativeId}
 use Rattle.dart_ir.specs.declared.value.Value.{Value}
 use Rattle.dart_store.specs.Heap.{Heap}
 use Rattle.core_program.specs.declared.form.Core.{Core}
-use Rattle.core_program.specs.Program.{Parameter, Function, Program}
+use Rattle.core_program.specs.Program.{Program}
 use Rattle.core_program.specs.View as v
 use Rattle.evaluation.specs.Evaluation.{eval}
-use Rattle.evaluation.specs.Classes.{function_at, member, member_at, member_function}
+use Rattle.evaluation.specs.Classes.{member}
 use Rattle.evaluation.specs.Externals.{native}
 use Rattle.evaluation.specs.State.{State, answer, ends}
-use Rattle.machine_lookup.specs.Shapes.{Reading, reading_of_member}
+use Rattle.machine_lookup.specs.Shapes.{Reading, reading_of_member, operand_site}
 use Rattle.machine_frame.specs.declared.around.Around.{Around}
 use Rattle.machine_frame.specs.Frames.{mute}
 use Rattle.machine_frame.specs.Outside.{setting_of, world_in, IsAdmitted}
@@ -40,24 +40,6 @@ IsPassed a outer left inner rest =
     (d : ℕ) (st : State) (x : Value) (after : ℕ) → mute (eval (v.core inner) (world_in a d) (record st { left = rest })) ≡ mute (ends (answer x) (record st { left = after }))
     → mute (eval (v.core outer) (world_in a d) (record st { left = left })) ≡ mute (ends (answer x) (record st { left = after }))
 
--- ---- the site of an operator's parameter
-
-abbrev pub site_of_parameters : List (Parameter ℕ) → Option ℕ
-site_of_parameters [] = None
-site_of_parameters (q ∷ qs) = Some q.site
-
-abbrev pub site_of_function : Option (Function ℕ) → Option ℕ
-site_of_function None = None
-site_of_function (Some f) = site_of_parameters f.parameters
-
-abbrev pub site_of_member : Program ℕ → Option ℕ → Option ℕ
-site_of_member p None = None
-site_of_member p (Some m) = site_of_function (function_at p (member_function (member_at p m)))
-
--- the site of the first parameter of the method of the name on objects of a class
-abbrev pub operand_site : Program ℕ → ℕ → ℕ → Option ℕ
-operand_site p k name = site_of_member p (member p (Some k) name Method)
-
--- The value goes on from that site.
+-- The value goes on from the site of the operator's parameter.
 abbrev pub IsTaken : Around → Heap → ℕ → ℕ → Value → Type 0
 IsTaken a h k name v = (n : ℕ) → operand_site (setting_of a).program k name ≡ Some n → IsAdmitted a h n v

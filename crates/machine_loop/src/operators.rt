@@ -1,7 +1,7 @@
 // Operators, comparisons, checks and getters that are answered at once, without a frame (ECMA-408, 16.17 Method Invocation).
 #![tactic(auto)]
 
-ghost use Rattle.std.specs.Prelude.{◌≡◌, ◌≤◌, ◌<◌, ◌∷◌, [], Some, true, false, IfSome};
+ghost use Rattle.std.specs.Prelude.{◌≡◌, ◌≤◌, ◌<◌, ◌∷◌, [], ℕ, Some, true, false, IfSome};
 ghost use Rattle.core_program.specs.ProgramView as p;
 ghost use Rattle.core_program.specs.View as v;
 ghost use Rattle.evaluation.specs.Arguments.{alone};
@@ -12,17 +12,16 @@ ghost use Rattle.evaluation.specs.Parts.{is_join};
 ghost use Rattle.evaluation.specs.State.{Outcome, Completion, answer, ends};
 ghost use Rattle.dart_store.specs.Heap.{Heap};
 ghost use Rattle.machine_frame.specs.declared.around.Around.{Around as AroundOf};
-ghost use Rattle.machine_frame.specs.Outside.{world_in};
+ghost use Rattle.machine_frame.specs.Outside.{world_in, IsAdmitted};
 ghost use Rattle.machine_frame.specs.Frames.{seen, mute};
-ghost use Rattle.machine_lookup.specs.Shapes.{operator};
+ghost use Rattle.machine_lookup.specs.Shapes.{operator, operand_site};
 ghost use Rattle.machine_lookup.specs.Found.{reading};
-ghost use Rattle.machine_loop.specs.Operator.{AnswersAtOnce, ReadsAtOnce, IsReading, IsTaken, operand_site};
+ghost use Rattle.machine_loop.specs.Operator.{AnswersAtOnce, ReadsAtOnce, IsReading};
 
-use crate::passing::{bare, is_checked};
+use crate::passing::bare;
 use crate::quick::{leaf_quick, native_value, small_value};
 use core_program::form::{Arguments, Binary, Core, Form, Job, Unary};
 use dart_base::place::Place;
-use dart_ir::class::Role;
 use dart_ir::native::NativeId;
 use dart_ir::value::{Value, integer_value};
 use dart_store::store::{Kind, Store};
@@ -31,7 +30,7 @@ use machine_frame::objects::{class_of, field_of};
 use machine_frame::run::Run;
 use machine_frame::sites::admits;
 use machine_lookup::linked::Linked;
-use machine_lookup::program::{function_at, is_closure, member_function};
+use machine_lookup::program::is_closure;
 use machine_lookup::row::first_form;
 use machine_lookup::shapes::Reads;
 use native_base::argument::place;
@@ -125,16 +124,16 @@ pub fn operated(
         ≡ mute (ends (answer r.0) (record (seen run.now) { left = r.1 }))) }
     ensures less { IfSome result (λ r. r.1 < left) }
 {
-    if is_checked(a) {
-        return operated_checked(run, a, name, this, value, left);
-    }
     if run.depth == 0 || left < 4 {
         return None;
     }
     let class = class_of(run, a, this);
-    let Some(id) = operator(a.program, class, name) else {
+    let Some((id, operand)) = operator(a.program, class, name) else {
         return None;
     };
+    if !takes(run, a, operand, value) {
+        return None;
+    }
     if let Some(answer) = small_value(id, this, value) {
         return Some((answer, left - 4));
     }
@@ -144,84 +143,31 @@ pub fn operated(
     }
 }
 
-// The same in checked mode.
-#[tactic(auto, using(crate::proofs::Operated::operated))]
-fn operated_checked(
-    run: &Run,
-    a: Around,
-    name: u32,
-    this: Value,
-    value: Value,
-    left: u64,
-) -> Option<(Value, u64)>
-    ensures value { IfSome result (λ r. (at : Place) → mute (send (world_in a.entry run.now.depth) at name this (alone value) (record (seen run.now) { left = left }))
-        ≡ mute (ends (answer r.0) (record (seen run.now) { left = r.1 }))) }
-    ensures less { IfSome result (λ r. r.1 < left) }
-{
-    if run.depth == 0 || left < 4 {
-        return None;
-    }
-    let class = class_of(run, a, this);
-    let Some(id) = operator(a.program, class, name) else {
-        return None;
-    };
-    if !takes(run, a, class, name, value) {
-        return None;
-    }
-    match answer_at_once(run, a, id, this, value) {
-        None => None,
-        Some(answer) => Some((answer, left - 4)),
-    }
-}
-
-// Whether the operator of the name on objects of a class surely takes the value: in production each does. `false` says nothing.
+// Whether a value surely goes on from the site of an operator's parameter, where there is one. `false` says nothing.
 #[inline(always)]
-fn takes(run: &Run, a: Around, class: u32, name: u32, value: Value) -> bool
-    ensures { result ≡ true → IsTaken a.entry run.now.store class name value }
+fn takes(run: &Run, a: Around, operand: Option<u32>, value: Value) -> bool
+    ensures { result ≡ true → (n : ℕ) → operand ≡ Some n → IsAdmitted a.entry run.now.store n value }
 {
-    match a.setup.annotated {
-        None => true,
-        Some(_) => takes_checked(run, a, class, name, value),
-    }
-}
-
-// The same in checked mode.
-fn takes_checked(run: &Run, a: Around, class: u32, name: u32, value: Value) -> bool
-    ensures { result ≡ true → IsTaken a.entry run.now.store class name value }
-{
-    match operand_site(a.program, class, name) {
+    match operand {
         None => true,
         Some(number) => admits(run, a, number, value),
     }
 }
 
-// The site of the first parameter of the method of the name on objects of a class.
-fn operand_site(program: &Linked, class: u32, name: u32) -> Option<u32>
-    ensures { result ≡ operand_site (p.program program.now) class name }
-{
-    let Some(found) = program.member(class, name, Role::Method) else {
-        return None;
-    };
-    let number = member_function(program.core(), found);
-    let Some(function) = function_at(program.core(), number) else {
-        return None;
-    };
-    let Some((parameter, _)) = function.parameters.as_slice().split_first() else {
-        return None;
-    };
-    Some(parameter.site.0)
-}
-
-// The native that the operator of the name is on objects of a class. `None` says nothing.
-#[tactic(auto, using(crate::proofs::Operated::found_operator))]
+// The native that the operator of the name is on objects of a class, and the site of its parameter. `None` says nothing.
+#[tactic(auto, using(crate::proofs::Operated::found_operator, crate::proofs::Operated::found_operand))]
 #[inline(always)]
-fn operator(program: &Linked, class: u32, name: u32) -> Option<NativeId>
-    ensures { IfSome result (λ id. operator (p.program program.now) class name ≡ Some id) }
+fn operator(program: &Linked, class: u32, name: u32) -> Option<(NativeId, Option<u32>)>
+    ensures native { IfSome result (λ o. operator (p.program program.now) class name ≡ Some o.0) }
+    ensures operand { IfSome result (λ o. operand_site (p.program program.now) class name ≡ o.1) }
 {
     let Some(found) = program.found(class, name) else {
         return None;
     };
-    found.operator
+    match found.operator {
+        None => None,
+        Some(id) => Some((id, found.operand)),
+    }
 }
 
 // What the getter of the name reads on objects of a class that have no method of that name. `None` says nothing.
@@ -456,7 +402,7 @@ fn unary_within(run: &Run, a: Around, core: &Core, left: u64, nesting: u32) -> O
     }
     match one {
         Unary::Check(number) => {
-            let (value, after) = within(run, a, operand, left - 1, nesting - 1)?;
+            let (value, after) = tested_within(run, a, operand, left - 1, nesting - 1)?;
             if !admits(run, a, number.0, value) {
                 return None;
             }
@@ -468,4 +414,51 @@ fn unary_within(run: &Run, a: Around, core: &Core, left: u64, nesting: u32) -> O
         }
         _ => None,
     }
+}
+
+// The same of a form whose value comes to a site, as a condition's comes to two.
+#[cycle(nesting)]
+#[inline(always)]
+fn tested_within(run: &Run, a: Around, core: &Core, left: u64, nesting: u32) -> Option<(Value, u64)>
+    ensures value { IfSome result (λ p. mute (eval (v.core core.now) (world_in a.entry run.now.depth) (record (seen run.now) { left = left }))
+        ≡ mute (ends (answer p.0) (record (seen run.now) { left = p.1 }))) }
+    ensures less { IfSome result (λ p. p.1 < left) }
+{
+    match &core.form {
+        Form::Unary(Unary::Check(_), _) => checked_within(run, a, core, left, nesting),
+        _ => operand_within(run, a, core, left, nesting),
+    }
+}
+
+// The same of a value that comes to a site.
+#[cycle(nesting)]
+#[inline(always)]
+fn checked_within(
+    run: &Run,
+    a: Around,
+    core: &Core,
+    left: u64,
+    nesting: u32,
+) -> Option<(Value, u64)>
+    ensures value { IfSome result (λ p. mute (eval (v.core core.now) (world_in a.entry run.now.depth) (record (seen run.now) { left = left }))
+        ≡ mute (ends (answer p.0) (record (seen run.now) { left = p.1 }))) }
+    ensures less { IfSome result (λ p. p.1 < left) }
+{
+    if left == 0 || nesting == 0 {
+        return None;
+    }
+    let Form::Unary(one, operand) = &core.form else {
+        return None;
+    };
+    let Unary::Check(number) = one else {
+        return None;
+    };
+    if is_closure(operand) {
+        return None;
+    }
+    let (value, after) = operand_within(run, a, operand, left - 1, nesting - 1)?;
+    if !admits(run, a, number.0, value) {
+        return None;
+    }
+    Some((value, after))
 }

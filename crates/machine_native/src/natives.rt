@@ -100,7 +100,7 @@ fn by_kind<'a>(
         return Ok(control);
     }
     if !is_print(id) {
-        return Err(Fault::NotBuilt);
+        return Err(Fault::Memory);
     }
     let control = print(run, a, at, count)?;
     Ok(control)

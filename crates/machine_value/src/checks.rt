@@ -19,6 +19,7 @@ ghost use Rattle.machine_frame.specs.Frames.{seen, mute, going, does, room, work
 
 use crate::errors::throw_new;
 use crate::heads::head_of;
+use crate::scope::surely_passes_here;
 use crate::types::{arguments_here, instance};
 use core_program::program::{CoreProgram, Site};
 use dart_ir::ending::Line;
@@ -260,6 +261,9 @@ fn passes_site(
     ensures { IfOk result (λ passes. passes ≡ spec.passes_kind (checking_of a.entry) site.now.kind (p.ty_option site.now.required) (head_of (setting_of a.entry) run.now.store value) (arguments_here (setting_of a.entry) (now (seen run.now)))) }
 {
     if surely_passes(run, a, site, value) {
+        return Ok(true);
+    }
+    if surely_passes_here(run, a, site, value) {
         return Ok(true);
     }
     let head = head_of(run, a, value)?;

@@ -5,6 +5,7 @@ pub mod checks;
 pub mod errors;
 pub mod heads;
 pub mod objects;
+mod scope;
 pub mod statics;
 pub mod texts;
 pub mod types;

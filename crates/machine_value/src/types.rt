@@ -293,13 +293,13 @@ fn put_in(
     }
 }
 
-/// Type arguments put into a type. A larger one than a type may be is not carried out.
+/// Type arguments put into a type. A larger one than a type may be is answered as want of memory.
 pub fn instance(alloc: Global, of: &TypeRef, arguments: &[TypeRef]) -> Result<TypeRef, Fault>
     ensures { IfOk result (λ made. ty made ≡ instance (of_list (map ty arguments.now)) (ty of.now)) }
 {
     match instantiate(alloc, of, arguments) {
         Ok(made) => Ok(made),
-        Err(_) => Err(Fault::NotBuilt),
+        Err(_) => Err(Fault::Memory),
     }
 }
 

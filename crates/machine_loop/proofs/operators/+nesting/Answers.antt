@@ -64,3 +64,14 @@ pub operand_within-returns-in-Leaf-clause-value : goal.operand_within-returns-in
 operand_within-returns-in-Leaf-clause-value t c =
     let r = c.args.run.now in
     if_some c.leaf_quick.result _ _ (λ p value. c.bare-rest.ensures.passes r.depth (seen r) p.0 p.1 (ap mute value)) c.leaf_quick.ensures.value
+
+pub checked_within-returns-clause-value : goal.checked_within-returns-clause-value
+checked_within-returns-clause-value t c =
+    let r = c.args.run.now in
+    let form = c.in-Unary in
+    let inner = c.deref-2.result.now in
+    let found = c.in_ok-value in
+    let bare : is_closure (form_of (v.core inner)) ≡ false = first_of (cc, search rules) in
+    let goes_on : c.admits.result ≡ true = first_of (cc, search rules) in
+    check_at_once c.args.a r.depth c.args.core.now c.in-Check.number form.operand inner (record (seen r) { left = c.args.left }) found.value found.after (c.admits.ensures goes_on)
+    (form.is ∙ ap (λ q. k.Unary q form.operand) c.in-Check.is) c.deref-2.ensures bare c.if-left-eq0.false found.ensures.value
