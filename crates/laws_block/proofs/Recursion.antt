@@ -1,0 +1,70 @@
+-- The recursion over depths: blocks, compound statements and statements of each depth, from those of the smaller ones.
+use Rattle.std.proofs.Common.{◌≡◌, ℕ, zero, suc, ◌≤◌, false, ◌⊎◌, inl, inr, subst, ltb, arith}
+use Rattle.std.proofs.lemmas.Bool.{ltb-true, ltb-false}
+use Rattle.dart_token.specs.declared.sign.Sign.TheVariants as s
+use Rattle.dart_tree.specs.Tokens.{block_tokens, stmt_tokens}
+use Rattle.grammar_laws.specs.Codes.{nowhere}
+use Rattle.grammar_laws.proofs.Codes.{cases_bool}
+use Rattle.grammar_laws.proofs.Restated.{nothing_laws}
+use Rattle.dart_syntax.specs.Statements as p
+use Rattle.token_codes.specs.Codes.{these}
+use Rattle.syntax_readers.specs.Statements as i
+use Rattle.syntax_readers.specs.Statements.{compound_first}
+use Rattle.laws_block.specs.Begun.{level_of, still_of}
+use Rattle.laws_stmt.specs.Statements.{BlockReadAt}
+use Rattle.laws_block.specs.Statements.{StatementsReadAt, CompoundReadAt, BesidesReadAt, Asked, AllReadAt}
+use Rattle.laws_block.proofs.Combined.{plain_begun}
+use Rattle.laws_block.proofs.Depths.{blocks_at, holders_at, tries_at, compounds_at}
+use Rattle.laws_block.proofs.For.{for_begun}
+use Rattle.laws_block.proofs.Whole.{statements_at}
+
+-- where there is no room for a node, there are none
+no_blocks : BlockReadAt zero
+unfolding i.stage p.within
+no_blocks = nothing_laws block_tokens (these s.LeftBrace) nowhere false
+
+no_compounds : CompoundReadAt zero
+unfolding i.stage p.within
+no_compounds = plain_begun (nothing_laws stmt_tokens compound_first nowhere false) (level_of zero) (still_of zero) (λ x none. absurd none) (λ x none. absurd none)
+
+last_or_below : (m n : ℕ) → m ≤ suc n → (m ≤ n) ⊎ (suc n ≡ m)
+last_or_below m n le = elim (cases_bool (ltb m (suc n))) [
+  | inl h ↦ inl (omega (arith, ltb-true m (suc n) h))
+  | inr h ↦ inr (omega (arith, le, ltb-false m (suc n) h))
+]
+
+module _ (asked : Asked) where
+  from : (n : ℕ) → ((m : ℕ) → m ≤ n → BlockReadAt m) → CompoundReadAt n → AllReadAt n
+  from n blocks compound = record {
+    block = blocks n (omega arith);
+    compound = compound;
+    statements = statements_at n (asked.besides n blocks).singles (blocks n (omega arith)) compound (asked.apart n);
+  }
+
+  record UpTo (n : ℕ) : Type 0 where
+    blocks : (m : ℕ) → m ≤ n → BlockReadAt m
+    here : AllReadAt n
+
+  next_blocks : (n : ℕ) → UpTo n → (m : ℕ) → m ≤ suc n → BlockReadAt m
+  next_blocks n below m le = elim (last_or_below m n le) [
+    | inl less ↦ below.blocks m less
+    | inr same ↦ subst BlockReadAt same (blocks_at n below.here.statements)
+  ]
+
+  next_compound : (n : ℕ) → UpTo n → CompoundReadAt (suc n)
+  next_compound n below =
+      let b : BesidesReadAt n = asked.besides n below.blocks in
+      let st : StatementsReadAt n = below.here.statements in
+      compounds_at n (for_begun n st b.for_parts (asked.heads n)) (holders_at n st b.condition) (asked.switches n st b) (tries_at n below.here.block b.catch_clause)
+
+  none_below : (m : ℕ) → m ≤ 0 → BlockReadAt m
+  none_below m le = let e : 0 ≡ m = omega (arith, le) in subst BlockReadAt e no_blocks
+
+  up_to : (n : ℕ) → UpTo n
+  up_to zero = record { blocks = none_below; here = from zero none_below no_compounds }
+  up_to (suc n) =
+      let below : UpTo n = up_to n in
+      record { blocks = next_blocks n below; here = from (suc n) (next_blocks n below) (next_compound n below) }
+
+  pub all_at : (n : ℕ) → AllReadAt n
+  all_at n = (up_to n).here
