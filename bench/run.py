@@ -10,6 +10,7 @@ CPython = 1, the second production = 1. Ratios hold within one run alone. --dart
 """
 import argparse
 import os
+import resource
 import shutil
 import subprocess
 import sys
@@ -28,12 +29,12 @@ LEAST = 0.001
 
 def once(words, folder):
     """Processor time of a run, in seconds, and what it wrote."""
-    before = os.times()
+    before = resource.getrusage(resource.RUSAGE_CHILDREN)
     ended = subprocess.run(words, cwd=folder, stdin=subprocess.DEVNULL, stdout=subprocess.PIPE, timeout=600)
-    after = os.times()
+    after = resource.getrusage(resource.RUSAGE_CHILDREN)
     if ended.returncode:
         sys.exit(f'{" ".join(words)} ended with {ended.returncode}')
-    used = after.children_user - before.children_user + after.children_system - before.children_system
+    used = after.ru_utime - before.ru_utime + after.ru_stime - before.ru_stime
     return used, ended.stdout
 
 
