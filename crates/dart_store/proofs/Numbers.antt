@@ -158,3 +158,7 @@ failed (Err x) h e = h
 pub worked : {T E P : Type 0} (r : Result T E) → OnOk r P → false ≡ is_err r → P
 worked (Ok x) h e = h
 worked (Err x) h e = absurd cc
+
+pub if_failed : {T E P : Type 0} (r : Result T E) → P → OnErr r P
+if_failed (Ok x) h = tt
+if_failed (Err x) h = h

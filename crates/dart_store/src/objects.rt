@@ -1,10 +1,15 @@
 // The objects of a store: what each costs and has, and its changes.
-ghost use Rattle.std.specs.Prelude.{◌≡◌, ◌+◌, ◌<◌, ◌≤◌, ◌^◌, [], ◌∷◌, ◌++◌, map, slice_get, slice_index_or, slice_set, if◌then◌else◌, true, false, IfOk, OnOk, OnErr, Err, Some};
+ghost use Rattle.std.specs.Prelude.{◌≡◌, ◌+◌, ◌<◌, ◌≤◌, ◌^◌, [], ◌∷◌, ◌++◌, map, slice_get, slice_index_or, slice_set, if◌then◌else◌, true, false, IfOk, OnOk, OnErr, Err};
 ghost use Rattle.dart_ir.specs.Object.{heap_object};
+ghost use Rattle.dart_store.specs.declared.pool.Pool.{Pool as PoolOf};
 ghost use Rattle.dart_store.specs.Heap as heap;
+ghost use Rattle.dart_store.specs.Pool.{stored_object, AllFit, Becomes, BecomesAt, ItemCosts, ItemCostsAt};
 
 use crate::items::{insert_value, push_nulls, remove_value};
+use crate::pool::Pool;
 use crate::store::{Kind, StoreFault};
+use crate::stored::Stored;
+use crate::view::receiver_of;
 use dart_ir::object::Object;
 use dart_ir::value::Value;
 use dart_ir::values::Values;
@@ -52,7 +57,7 @@ pub fn shown_behind(shown: u64, object: &Object) -> u64
 }
 
 // Adds an object at the end. An `Err` changes nothing.
-pub fn push_object(objects: &mut Vec<Object>, object: Object) -> Result<(), AllocError>
+pub fn push_object(objects: &mut Vec<Stored>, object: Stored) -> Result<(), AllocError>
     ensures ok { OnOk result (objects.new.items ≡ objects.old.items ++ object ∷ []) }
     ensures err { OnErr result (objects.new.items ≡ objects.old.items) }
 {
@@ -61,7 +66,7 @@ pub fn push_object(objects: &mut Vec<Object>, object: Object) -> Result<(), Allo
 }
 
 // Adds a number at the end. An `Err` changes nothing.
-pub fn push_number(numbers: &mut Vec<u64>, number: u64) -> Result<(), AllocError>
+pub fn push_number(numbers: &mut Vec<u32>, number: u32) -> Result<(), AllocError>
     ensures ok { OnOk result (numbers.new.items ≡ numbers.old.items ++ number ∷ []) }
     ensures err { OnErr result (numbers.new.items ≡ numbers.old.items) }
 {
@@ -82,50 +87,50 @@ fn value_among(values: &[Value], index: usize) -> Value
 
 // The field of an object.
 #[tactic(auto, using(crate::proofs::Sets::store_laws))]
-pub fn field_among(objects: &Vec<Object>, at: usize, index: usize) -> Value
-    ensures { result ≡ heap.field_of (slice_get (map heap_object objects.now.items) at) index }
+pub fn field_among(objects: &Vec<Stored>, at: usize, index: usize) -> Value
+    ensures { (p : PoolOf) → result ≡ heap.field_of (slice_get (map (stored_object p) objects.now.items) at) index }
 {
     if at >= objects.len() {
         return Value::Null;
     }
     match &objects[at] {
-        Object::Instance {
+        Stored::Instance {
             class: _,
             args: _,
             fields,
         } => value_among(fields.as_slice(), index),
-        Object::List {
+        Stored::List {
             args: _,
             items,
             fixed: _,
         } => value_among(items.as_slice(), index),
-        Object::Closure {
+        Stored::Closure {
             decl: _,
             receiver: _,
             args: _,
             cells,
         } => value_among(cells.as_slice(), index),
-        Object::Cell { value, counted: _ } => value_among(&[*value], index),
+        Stored::Cell { value, counted: _ } => value_among(&[*value], index),
         _ => Value::Null,
     }
 }
 
 // The object that a closure or a method is bound to.
 #[tactic(auto, using(crate::proofs::Sets::store_laws))]
-pub fn receiver_among(objects: &Vec<Object>, at: usize) -> Value
-    ensures { result ≡ heap.receiver_of (slice_get (map heap_object objects.now.items) at) }
+pub fn receiver_among(pool: &Pool, objects: &Vec<Stored>, at: usize) -> Value
+    ensures { result ≡ heap.receiver_of (slice_get (map (stored_object pool.now) objects.now.items) at) }
 {
     if at >= objects.len() {
         return Value::Null;
     }
     match &objects[at] {
-        Object::Closure {
+        Stored::Closure {
             decl: _,
             receiver,
             args: _,
             cells: _,
-        } => *receiver,
-        Object::Bound {
+        } => receiver_of(&pool.receivers, *receiver),
+        Stored::Bound {
             receiver,
             member: _,
         } => *receiver,
@@ -135,31 +140,31 @@ pub fn receiver_among(objects: &Vec<Object>, at: usize) -> Value
 
 // How many fields, items, cells or units of text an object has.
 #[tactic(auto, using(crate::proofs::Sets::store_laws))]
-pub fn length_among(objects: &Vec<Object>, at: usize) -> usize
-    ensures { result ≡ heap.length_of (slice_get (map heap_object objects.now.items) at) }
+pub fn length_among(objects: &Vec<Stored>, at: usize) -> usize
+    ensures { (p : PoolOf) → AllFit p objects.now.items → result ≡ heap.length_of (slice_get (map (stored_object p) objects.now.items) at) }
 {
     if at >= objects.len() {
         return 0;
     }
     match &objects[at] {
-        Object::Instance {
+        Stored::Instance {
             class: _,
             args: _,
             fields,
         } => fields.len(),
-        Object::List {
+        Stored::List {
             args: _,
             items,
             fixed: _,
         } => items.len(),
-        Object::Text(units) => units.len(),
-        Object::Closure {
+        Stored::Text { start: _, len } => *len,
+        Stored::Closure {
             decl: _,
             receiver: _,
             args: _,
             cells,
         } => cells.len(),
-        Object::Cell {
+        Stored::Cell {
             value: _,
             counted: _,
         } => 1,
@@ -169,41 +174,41 @@ pub fn length_among(objects: &Vec<Object>, at: usize) -> usize
 
 // Which object it is.
 #[tactic(auto, using(crate::proofs::Sets::store_laws))]
-pub fn kind_among(objects: &Vec<Object>, at: usize) -> Kind
-    ensures { result ≡ heap.kind_of (slice_get (map heap_object objects.now.items) at) }
+pub fn kind_among(objects: &Vec<Stored>, at: usize) -> Kind
+    ensures { (p : PoolOf) → result ≡ heap.kind_of (slice_get (map (stored_object p) objects.now.items) at) }
 {
     if at >= objects.len() {
         return Kind::Absent;
     }
     match &objects[at] {
-        Object::Instance {
+        Stored::Instance {
             class,
             args: _,
             fields: _,
         } => Kind::Instance(*class),
-        Object::List {
+        Stored::List {
             args: _,
             items: _,
             fixed,
         } => Kind::List(*fixed),
-        Object::Text(_) => Kind::Text,
-        Object::Closure {
+        Stored::Text { start: _, len: _ } => Kind::Text,
+        Stored::Closure {
             decl,
             receiver: _,
             args: _,
             cells: _,
         } => Kind::Closure(*decl),
-        Object::Bound {
+        Stored::Bound {
             receiver: _,
             member,
         } => Kind::Bound(*member),
-        Object::TypeValue(_) => Kind::TypeValue,
-        Object::SendPort { isolate, port } => Kind::SendPort {
+        Stored::TypeValue(_) => Kind::TypeValue,
+        Stored::SendPort { isolate, port } => Kind::SendPort {
             isolate: *isolate,
             port: *port,
         },
-        Object::ReceivePort { port } => Kind::ReceivePort { port: *port },
-        Object::Cell {
+        Stored::ReceivePort { port } => Kind::ReceivePort { port: *port },
+        Stored::Cell {
             value: _,
             counted: _,
         } => Kind::Cell,
@@ -220,27 +225,27 @@ fn put_value(values: &mut Values, index: usize, value: Value)
 }
 
 // Puts a value into an object.
-fn put_into(object: &mut Object, index: usize, value: Value)
-    ensures { heap_object object.new ≡ heap.with_field index value (heap_object object.old) }
+fn put_into(object: &mut Stored, index: usize, value: Value)
+    ensures { Becomes (heap.with_field index value) object.old object.new }
 {
     match object {
-        Object::Instance {
+        Stored::Instance {
             class: _,
             args: _,
             fields,
         } => put_value(fields, index, value),
-        Object::List {
+        Stored::List {
             args: _,
             items,
             fixed: _,
         } => put_value(items, index, value),
-        Object::Closure {
+        Stored::Closure {
             decl: _,
             receiver: _,
             args: _,
             cells,
         } => put_value(cells, index, value),
-        Object::Cell {
+        Stored::Cell {
             value: held,
             counted: _,
         } => {
@@ -254,8 +259,8 @@ fn put_into(object: &mut Object, index: usize, value: Value)
 
 // Puts a value into the object there.
 #[tactic(auto, using(crate::proofs::Sets::store_laws))]
-pub fn put_field(objects: &mut Vec<Object>, at: usize, index: usize, value: Value)
-    ensures { map heap_object objects.new.items ≡ heap.changed (heap.with_field index value) at (map heap_object objects.old.items) }
+pub fn put_field(objects: &mut Vec<Stored>, at: usize, index: usize, value: Value)
+    ensures { BecomesAt (heap.with_field index value) at objects.old.items objects.new.items }
 {
     if at < objects.len() {
         put_into(&mut objects[at], index, value);
@@ -263,11 +268,11 @@ pub fn put_field(objects: &mut Vec<Object>, at: usize, index: usize, value: Valu
 }
 
 // Keeps the first items of a list.
-fn cut_list(object: &mut Object, count: usize)
-    ensures { heap_object object.new ≡ heap.first_items count (heap_object object.old) }
+fn cut_list(object: &mut Stored, count: usize)
+    ensures { Becomes (heap.first_items count) object.old object.new }
 {
     match object {
-        Object::List {
+        Stored::List {
             args: _,
             items,
             fixed: _,
@@ -278,8 +283,8 @@ fn cut_list(object: &mut Object, count: usize)
 
 // Keeps the first items of the list there.
 #[tactic(auto, using(crate::proofs::Sets::store_laws))]
-pub fn cut_at(objects: &mut Vec<Object>, at: usize, count: usize)
-    ensures { map heap_object objects.new.items ≡ heap.changed (heap.first_items count) at (map heap_object objects.old.items) }
+pub fn cut_at(objects: &mut Vec<Stored>, at: usize, count: usize)
+    ensures { BecomesAt (heap.first_items count) at objects.old.items objects.new.items }
 {
     if at < objects.len() {
         cut_list(&mut objects[at], count);
@@ -287,13 +292,13 @@ pub fn cut_at(objects: &mut Vec<Object>, at: usize, count: usize)
 }
 
 // Adds an item to a list, where there is room for one, and says whether it was one.
-fn push_into(object: &mut Object, value: Value, has_room: bool) -> Result<bool, StoreFault>
-    ensures pushed { IfOk result (λ found. (heap_object object.new ≡ heap.with_item value (heap_object object.old)) × (heap.item_cost (Some (heap_object object.old)) ≡ (if found then 1 else 0)) × (found ≡ true → has_room ≡ true)) }
-    ensures full { result ≡ Err StoreFault.Full → (heap.item_cost (Some (heap_object object.old)) ≡ 1) × (has_room ≡ false) }
-    ensures refused { OnErr result (heap_object object.new ≡ heap_object object.old) }
+fn push_into(object: &mut Stored, value: Value, has_room: bool) -> Result<bool, StoreFault>
+    ensures pushed { IfOk result (λ found. Becomes (heap.with_item value) object.old object.new × ItemCosts object.old (if found then 1 else 0) × (found ≡ true → has_room ≡ true)) }
+    ensures full { result ≡ Err StoreFault.Full → ItemCosts object.old 1 × (has_room ≡ false) }
+    ensures refused { OnErr result (object.new ≡ object.old) }
 {
     match object {
-        Object::List {
+        Stored::List {
             args: _,
             items,
             fixed: _,
@@ -311,15 +316,15 @@ fn push_into(object: &mut Object, value: Value, has_room: bool) -> Result<bool, 
 // Adds an item to the list there, where there is room for one, and says whether there was a list.
 #[tactic(auto, using(crate::proofs::Sets::store_laws))]
 pub fn push_at(
-    objects: &mut Vec<Object>,
+    objects: &mut Vec<Stored>,
     at: usize,
     value: Value,
     has_room: bool,
 ) -> Result<bool, StoreFault>
-    ensures pushed { IfOk result (λ found. (map heap_object objects.new.items ≡ heap.changed (heap.with_item value) at (map heap_object objects.old.items))
-        × (heap.item_cost (slice_get (map heap_object objects.old.items) at) ≡ (if found then 1 else 0)) × (found ≡ true → has_room ≡ true)) }
-    ensures full { result ≡ Err StoreFault.Full → (heap.item_cost (slice_get (map heap_object objects.old.items) at) ≡ 1) × (has_room ≡ false) }
-    ensures refused { OnErr result (map heap_object objects.new.items ≡ map heap_object objects.old.items) }
+    ensures pushed { IfOk result (λ found. BecomesAt (heap.with_item value) at objects.old.items objects.new.items
+        × ItemCostsAt at objects.old.items (if found then 1 else 0) × (found ≡ true → has_room ≡ true)) }
+    ensures full { result ≡ Err StoreFault.Full → ItemCostsAt at objects.old.items 1 × (has_room ≡ false) }
+    ensures refused { OnErr result (objects.new.items ≡ objects.old.items) }
 {
     if at >= objects.len() {
         return Ok(false);
@@ -330,17 +335,17 @@ pub fn push_at(
 // Puts an item into a list, where there is room for one, and says whether it was one.
 fn insert_into(
     alloc: Global,
-    object: &mut Object,
+    object: &mut Stored,
     index: usize,
     value: Value,
     has_room: bool,
 ) -> Result<bool, StoreFault>
-    ensures inserted { IfOk result (λ found. (heap_object object.new ≡ heap.with_inserted index value (heap_object object.old)) × (heap.item_cost (Some (heap_object object.old)) ≡ (if found then 1 else 0)) × (found ≡ true → has_room ≡ true)) }
-    ensures full { result ≡ Err StoreFault.Full → (heap.item_cost (Some (heap_object object.old)) ≡ 1) × (has_room ≡ false) }
-    ensures refused { OnErr result (heap_object object.new ≡ heap_object object.old) }
+    ensures inserted { IfOk result (λ found. Becomes (heap.with_inserted index value) object.old object.new × ItemCosts object.old (if found then 1 else 0) × (found ≡ true → has_room ≡ true)) }
+    ensures full { result ≡ Err StoreFault.Full → ItemCosts object.old 1 × (has_room ≡ false) }
+    ensures refused { OnErr result (object.new ≡ object.old) }
 {
     match object {
-        Object::List {
+        Stored::List {
             args: _,
             items,
             fixed: _,
@@ -358,16 +363,16 @@ fn insert_into(
 // Puts an item into the list there, where there is room for one, and says whether there was a list.
 #[tactic(auto, using(crate::proofs::Sets::store_laws))]
 pub fn insert_at(
-    objects: &mut Vec<Object>,
+    objects: &mut Vec<Stored>,
     at: usize,
     index: usize,
     value: Value,
     has_room: bool,
 ) -> Result<bool, StoreFault>
-    ensures inserted { IfOk result (λ found. (map heap_object objects.new.items ≡ heap.changed (heap.with_inserted index value) at (map heap_object objects.old.items))
-        × (heap.item_cost (slice_get (map heap_object objects.old.items) at) ≡ (if found then 1 else 0)) × (found ≡ true → has_room ≡ true)) }
-    ensures full { result ≡ Err StoreFault.Full → (heap.item_cost (slice_get (map heap_object objects.old.items) at) ≡ 1) × (has_room ≡ false) }
-    ensures refused { OnErr result (map heap_object objects.new.items ≡ map heap_object objects.old.items) }
+    ensures inserted { IfOk result (λ found. BecomesAt (heap.with_inserted index value) at objects.old.items objects.new.items
+        × ItemCostsAt at objects.old.items (if found then 1 else 0) × (found ≡ true → has_room ≡ true)) }
+    ensures full { result ≡ Err StoreFault.Full → ItemCostsAt at objects.old.items 1 × (has_room ≡ false) }
+    ensures refused { OnErr result (objects.new.items ≡ objects.old.items) }
 {
     if at >= objects.len() {
         return Ok(false);
@@ -377,13 +382,13 @@ pub fn insert_at(
 }
 
 // Adds nulls to a list, where there is room for them, and says whether it was one.
-fn grow_list(object: &mut Object, count: usize, has_room: bool) -> Result<bool, StoreFault>
-    ensures grown { IfOk result (λ found. (heap_object object.new ≡ heap.with_nulls count (heap_object object.old)) × (heap.item_cost (Some (heap_object object.old)) ≡ (if found then 1 else 0)) × (found ≡ true → has_room ≡ true)) }
-    ensures full { result ≡ Err StoreFault.Full → (heap.item_cost (Some (heap_object object.old)) ≡ 1) × (has_room ≡ false) }
-    ensures refused { OnErr result (heap_object object.new ≡ heap_object object.old) }
+fn grow_list(object: &mut Stored, count: usize, has_room: bool) -> Result<bool, StoreFault>
+    ensures grown { IfOk result (λ found. Becomes (heap.with_nulls count) object.old object.new × ItemCosts object.old (if found then 1 else 0) × (found ≡ true → has_room ≡ true)) }
+    ensures full { result ≡ Err StoreFault.Full → ItemCosts object.old 1 × (has_room ≡ false) }
+    ensures refused { OnErr result (object.new ≡ object.old) }
 {
     match object {
-        Object::List {
+        Stored::List {
             args: _,
             items,
             fixed: _,
@@ -401,15 +406,15 @@ fn grow_list(object: &mut Object, count: usize, has_room: bool) -> Result<bool, 
 // Adds nulls to the list there, where there is room for them, and says whether there was a list.
 #[tactic(auto, using(crate::proofs::Sets::store_laws))]
 pub fn grow_at(
-    objects: &mut Vec<Object>,
+    objects: &mut Vec<Stored>,
     at: usize,
     count: usize,
     has_room: bool,
 ) -> Result<bool, StoreFault>
-    ensures grown { IfOk result (λ found. (map heap_object objects.new.items ≡ heap.changed (heap.with_nulls count) at (map heap_object objects.old.items))
-        × (heap.item_cost (slice_get (map heap_object objects.old.items) at) ≡ (if found then 1 else 0)) × (found ≡ true → has_room ≡ true)) }
-    ensures full { result ≡ Err StoreFault.Full → (heap.item_cost (slice_get (map heap_object objects.old.items) at) ≡ 1) × (has_room ≡ false) }
-    ensures refused { OnErr result (map heap_object objects.new.items ≡ map heap_object objects.old.items) }
+    ensures grown { IfOk result (λ found. BecomesAt (heap.with_nulls count) at objects.old.items objects.new.items
+        × ItemCostsAt at objects.old.items (if found then 1 else 0) × (found ≡ true → has_room ≡ true)) }
+    ensures full { result ≡ Err StoreFault.Full → ItemCostsAt at objects.old.items 1 × (has_room ≡ false) }
+    ensures refused { OnErr result (objects.new.items ≡ objects.old.items) }
 {
     if at >= objects.len() {
         return Ok(false);
@@ -418,11 +423,11 @@ pub fn grow_at(
 }
 
 // Takes an item out of a list.
-fn remove_from(alloc: Global, object: &mut Object, index: usize)
-    ensures { heap_object object.new ≡ heap.without_item index (heap_object object.old) }
+fn remove_from(alloc: Global, object: &mut Stored, index: usize)
+    ensures { Becomes (heap.without_item index) object.old object.new }
 {
     match object {
-        Object::List {
+        Stored::List {
             args: _,
             items,
             fixed: _,
@@ -433,8 +438,8 @@ fn remove_from(alloc: Global, object: &mut Object, index: usize)
 
 // Takes an item out of the list there.
 #[tactic(auto, using(crate::proofs::Sets::store_laws))]
-pub fn remove_at(objects: &mut Vec<Object>, at: usize, index: usize)
-    ensures { map heap_object objects.new.items ≡ heap.changed (heap.without_item index) at (map heap_object objects.old.items) }
+pub fn remove_at(objects: &mut Vec<Stored>, at: usize, index: usize)
+    ensures { BecomesAt (heap.without_item index) at objects.old.items objects.new.items }
 {
     if at < objects.len() {
         let alloc = *objects.allocator();

@@ -2,12 +2,17 @@
 ghost use Rattle.std.specs.Prelude.{◌≡◌, ◌+◌, ◌*◌, ◌↔◌, ◌<◌, ◌≤◌, ◌^◌, [], ◌∷◌, ◌++◌, length, map, slice_get, slice_index_or, slice_set, if◌then◌else◌, true, false, IsTrue, IfOk, OnOk, OnErr, MatchOption, Err, Some, None};
 ghost use Rattle.dart_ir.specs.Object.{heap_object};
 ghost use Rattle.dart_store.specs.Heap as heap;
+ghost use Rattle.dart_store.specs.ObjectView.{viewed_object};
 ghost use Rattle.dart_store.specs.declared.store.StoreFault.TheVariants.{Memory};
 
 use crate::objects::{
     cost_of, cut_at, field_among, grow_at, insert_at, kind_among, length_among, push_at,
     push_number, push_object, put_field, receiver_among, remove_at, shown_behind,
 };
+use crate::pool::{Pool, keep};
+use crate::stored::Stored;
+use crate::types::TypeLists;
+use crate::view::{ObjectView, view_at};
 use dart_ir::number::{ClassId, DeclId, MemberId, Ref};
 use dart_ir::object::Object;
 use dart_ir::value::Value;
@@ -64,9 +69,10 @@ pub enum Kind {
 /// heap.
 #[derive(Drop)]
 pub struct Store {
-    objects: Vec<Object>,
+    objects: Vec<Stored>,
+    pool: Pool,
     /// The number that each object shows.
-    numbers: Vec<u64>,
+    numbers: Vec<u32>,
     /// How many objects are no cells.
     shown: u64,
     statics: Vec<Static>,
@@ -77,24 +83,25 @@ pub struct Store {
 impl Model for Store {
     ghost use Rattle.std.specs.Prelude.{◌≡◌, map, ◌≤◌, ◌<◌, ◌^◌};
     ghost use Rattle.std.specs.Coded.{codes};
-    ghost use Rattle.dart_ir.specs.Object.{heap_object};
     ghost use Rattle.dart_ir.specs.TyCode.{coded_ty};
     ghost use Rattle.dart_store.specs.Heap.{Heap, numbers_from, count_shown};
+    ghost use Rattle.dart_store.specs.Pool.{stored_object, AllFit};
 
     ghost Value = { Heap };
 
     ghost coded = { Prim.hlevel (codes, coded_ty) };
 
     ghost view = { λ s. record {
-      objects = map heap_object s.objects.items;
+      objects = map (stored_object s.pool) s.objects.items;
       statics = s.statics.items;
       used = s.used;
       limit = s.limit;
     } };
 
     ghost invariant = { λ s. (s.used ≤ s.limit) × (s.limit < 2 ^ 32)
-        × (s.numbers.items ≡ numbers_from 0 (map heap_object s.objects.items))
-        × (s.shown ≡ count_shown (map heap_object s.objects.items)) × (s.shown ≤ s.used) };
+        × (s.numbers.items ≡ numbers_from 0 (map (stored_object s.pool) s.objects.items))
+        × (s.shown ≡ count_shown (map (stored_object s.pool) s.objects.items)) × (s.shown ≤ s.used)
+        × AllFit s.pool s.objects.items };
 }
 
 impl Store {
@@ -105,6 +112,11 @@ impl Store {
     {
         Store {
             objects: Vec::new(alloc),
+            pool: Pool {
+                units: Vec::new(alloc),
+                receivers: Vec::new(alloc),
+                types: TypeLists::new(alloc),
+            },
             numbers: Vec::new(alloc),
             shown: 0,
             statics,
@@ -133,8 +145,9 @@ impl Store {
         }
         let at = self.objects.len();
         let shown = shown_behind(self.shown, &object);
-        push_number(&mut self.numbers, self.shown)?;
-        if push_object(&mut self.objects, object).is_err() {
+        let stored = keep(&mut self.pool, object)?;
+        push_number(&mut self.numbers, self.shown as u32)?;
+        if push_object(&mut self.objects, stored).is_err() {
             self.numbers.truncate(at);
             return Err(StoreFault::Memory);
         }
@@ -144,10 +157,10 @@ impl Store {
     }
 
     /// The object, or `None` where there is none of that number.
-    pub fn get(&self, r: Ref) -> Option<&Object>
-        ensures { MatchOption result (slice_get self.now.objects r.0 ≡ None) (λ object. slice_get self.now.objects r.0 ≡ Some (heap_object object.now)) }
+    pub fn get(&self, r: Ref) -> Option<ObjectView<'_>>
+        ensures { MatchOption result (slice_get self.now.objects r.0 ≡ None) (λ view. slice_get self.now.objects r.0 ≡ Some (viewed_object view)) }
     {
-        self.objects.get(r.0 as usize)
+        view_at(&self.pool, &self.objects, r.0 as usize)
     }
 
     /// Which object it is.
@@ -168,7 +181,7 @@ impl Store {
     pub fn receiver(&self, r: Ref) -> Value
         ensures { result ≡ heap.receiver_of (slice_get self.now.objects r.0) }
     {
-        receiver_among(&self.objects, r.0 as usize)
+        receiver_among(&self.pool, &self.objects, r.0 as usize)
     }
 
     /// The field, the item or the cell of that number, or what a cell holds, which is its field 0; null where there is none.
@@ -264,7 +277,7 @@ impl Store {
     {
         let at = r.0 as usize;
         if at < self.numbers.len() {
-            self.numbers[at]
+            u64::from(self.numbers[at])
         } else {
             self.shown
         }
