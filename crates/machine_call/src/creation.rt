@@ -86,8 +86,9 @@ fn instantiate<'a>(
     ensures meaning { IfOk result (λ c. going a.entry run.new c ≡ does_row a.entry run.old passed.entry.count (λ w. creation.instantiate w at class f (given_of passed.entry run.old.operands.items) (map ty types.items))) }
     ensures less { IfOk result (λ c. work run.new c < room run.old + 10) }
 {
-    let mut fields = Vec::new(run.alloc);
-    push_nulls(&mut fields, field_count(a.program.core(), class))?;
+    let count = field_count(a.program.core(), class);
+    let mut fields = Vec::with_capacity(run.alloc, count as usize)?;
+    push_nulls(&mut fields, count)?;
     let object = Object::Instance {
         class: ClassId(class),
         args: types,

@@ -16,9 +16,9 @@ ghost use Rattle.machine_frame.specs.Frames.{forms_of, branches_of, case_from, c
 
 use core_program::form::{Case, Core, Form, Way};
 use dart_ir::kind::ThrowKind;
-use dart_ir::object::Object;
 use dart_ir::value::Value;
 use dart_store::store::Store;
+use dart_store::view::ObjectView;
 use machine_frame::around::{Around, Fault};
 use machine_frame::moves::{answer, wait};
 use machine_frame::run::{Control, Exit, Frame, Run, Switching};
@@ -163,7 +163,7 @@ fn units_of<'b>(a: Around<'b>, store: &'b Store, value: Value) -> Option<&'b [u1
             Some(text) => Some(text.as_slice()),
         },
         Value::At(r) => match store.get(r) {
-            Some(Object::Text(text)) => Some(text.as_slice()),
+            Some(ObjectView::Text(text)) => Some(text),
             _ => None,
         },
         _ => None,

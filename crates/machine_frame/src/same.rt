@@ -3,9 +3,10 @@
 
 ghost use Rattle.std.specs.Prelude.{◌≡◌, List, Some, true, length, map, nat_lt, IfSome};
 ghost use Rattle.dart_ir.specs.Classes.{class_at, parameter_count};
-ghost use Rattle.dart_ir.specs.Object.{heap_object, of};
+ghost use Rattle.dart_ir.specs.Object.{of};
 ghost use Rattle.dart_ir.specs.Ty.{Ty, ty, dynamic, nil, of_list, class as class_of};
 ghost use Rattle.dart_store.specs.Heap.{Heap};
+ghost use Rattle.dart_store.specs.ObjectView.{viewed_object};
 ghost use Rattle.dart_type.specs.Instance.{instance};
 ghost use Rattle.type_test.specs.Test.{is_formed};
 ghost use Rattle.evaluation.specs.Checks as spec;
@@ -15,9 +16,9 @@ ghost use Rattle.machine_frame.specs.Outside.{checking_of, setting_of};
 
 use crate::around::Around;
 use crate::run::Run;
-use dart_ir::object::Object;
 use dart_ir::types::TypeRef;
 use dart_ir::value::Value;
+use dart_store::view::ObjectView;
 
 /// The class of a type that has no type arguments. `None` says nothing.
 fn plain_number(of: &TypeRef) -> Option<u32>
@@ -129,39 +130,39 @@ fn is_type(a: Around, class: u32, arguments: &[TypeRef], wanted: &TypeRef) -> bo
 
 /// The class and the type arguments of an instance or a list. `None` says nothing.
 #[inline(always)]
-pub fn typed_object<'b>(a: Around, object: &'b Object) -> Option<(u32, &'b [TypeRef])>
-    ensures { IfSome result (λ o. object_type (setting_of a.entry) (Some (heap_object object.now)) ≡ Some (class_of o.0 (of_list (map ty o.1.now)))) }
+pub fn typed_object<'b>(a: Around, object: ObjectView<'b>) -> Option<(u32, &'b [TypeRef])>
+    ensures { IfSome result (λ o. object_type (setting_of a.entry) (Some (viewed_object object.entry)) ≡ Some (class_of o.0 (of_list (map ty o.1.now)))) }
 {
     match object {
-        Object::Instance {
+        ObjectView::Instance {
             class,
             args,
             fields: _,
-        } => Some((class.0, args.as_slice())),
-        Object::List {
+        } => Some((class.0, args)),
+        ObjectView::List {
             args,
             items: _,
             fixed: _,
-        } => Some((a.setup.known.list_class.0, args.as_slice())),
+        } => Some((a.setup.known.list_class.0, args)),
         _ => None,
     }
 }
 
 /// Whether an object surely is an instance or a list of the type. `false` says nothing.
-fn object_has_type(a: Around, object: &Object, wanted: &TypeRef) -> bool
-    ensures { result ≡ true → (h : Heap) → (args : List Ty) → spec.is_of_type (checking_of a.entry) (object_head (setting_of a.entry) h (Some (heap_object object.now))) (instance (of_list args) (ty wanted.now)) ≡ true }
+fn object_has_type(a: Around, object: ObjectView, wanted: &TypeRef) -> bool
+    ensures { result ≡ true → (h : Heap) → (args : List Ty) → spec.is_of_type (checking_of a.entry) (object_head (setting_of a.entry) h (Some (viewed_object object.entry))) (instance (of_list args) (ty wanted.now)) ≡ true }
 {
     match object {
-        Object::Instance {
+        ObjectView::Instance {
             class,
             args,
             fields: _,
-        } => is_type(a, class.0, args.as_slice(), wanted),
-        Object::List {
+        } => is_type(a, class.0, args, wanted),
+        ObjectView::List {
             args,
             items: _,
             fixed: _,
-        } => is_type(a, a.setup.known.list_class.0, args.as_slice(), wanted),
+        } => is_type(a, a.setup.known.list_class.0, args, wanted),
         _ => false,
     }
 }

@@ -2,10 +2,11 @@
 #![tactic(auto)]
 
 ghost use Rattle.std.specs.Prelude.{◌≡◌, [], List, Some, None, true, false, IfSome, MatchOption, slice_get};
-ghost use Rattle.dart_ir.specs.Object.{heap_object, HeadTy, of};
+ghost use Rattle.dart_ir.specs.Object.{HeadTy, of};
 ghost use Rattle.dart_ir.specs.Ty.{Ty, ty, nil, of_list, class as class_of};
 ghost use Rattle.dart_ir.specs.declared.value.Value.{Value as ValueOf};
 ghost use Rattle.dart_store.specs.Heap.{Heap};
+ghost use Rattle.dart_store.specs.ObjectView.{viewed_object};
 ghost use Rattle.dart_type.specs.Instance.{instance};
 ghost use Rattle.type_test.specs.Test.{is_formed};
 ghost use Rattle.machine_frame.specs.Above.{IsPlainSuperclass, IsReached};
@@ -22,9 +23,9 @@ use crate::same::has_type;
 use core_program::program::{CoreProgram, Site};
 use dart_ir::class::ClassInfo;
 use dart_ir::kind::SiteKind;
-use dart_ir::object::Object;
 use dart_ir::types::TypeRef;
 use dart_ir::value::Value;
+use dart_store::view::ObjectView;
 
 /// The class of a value that has one without type arguments. `None` says nothing.
 #[inline(always)]
@@ -49,16 +50,16 @@ fn plain_class(run: &Run, a: Around, value: Value) -> Option<u32>
 
 /// The same of an object.
 #[inline(always)]
-fn plain_object_class(a: Around, object: &Object) -> Option<u32>
-    ensures { IfSome result (λ c. (h : Heap) → object_head (setting_of a.entry) h (Some (heap_object object.now)) ≡ of c []) }
+fn plain_object_class(a: Around, object: ObjectView) -> Option<u32>
+    ensures { IfSome result (λ c. (h : Heap) → object_head (setting_of a.entry) h (Some (viewed_object object.entry)) ≡ of c []) }
 {
     match object {
-        Object::Instance {
+        ObjectView::Instance {
             class,
             args,
             fields: _,
         } => { if args.is_empty() { Some(class.0) } else { None } }
-        Object::Text(_) => Some(a.setup.known.string_class.0),
+        ObjectView::Text(_) => Some(a.setup.known.string_class.0),
         _ => None,
     }
 }

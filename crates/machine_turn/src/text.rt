@@ -9,8 +9,8 @@ ghost use Rattle.machine_frame.specs.Outside.{setting_of};
 
 use core_program::program::CoreProgram;
 use dart_base::units::Units;
-use dart_ir::object::Object;
 use dart_ir::value::{Value, integer_of};
+use dart_store::view::ObjectView;
 use machine_frame::around::{Around, Fault};
 use machine_frame::objects::class_of;
 use machine_frame::run::Run;
@@ -101,7 +101,7 @@ fn string_units<'r>(run: &'r Run, a: Around<'r>, value: Value) -> Option<&'r [u1
             Some(text) => Some(text.as_slice()),
         },
         Value::At(r) => match run.store.get(r) {
-            Some(Object::Text(text)) => Some(text.as_slice()),
+            Some(ObjectView::Text(text)) => Some(text),
             _ => None,
         },
         _ => None,
@@ -116,11 +116,11 @@ fn push_object(run: &Run, a: Around, units: &mut Units, value: Value) -> Result<
         return push_class(run.alloc, a, units, class_of(run, a, value));
     };
     match run.store.get(r) {
-        Some(Object::Instance { class, fields, .. }) => {
-            push_instance(run, a, units, class.0, fields.as_slice())
+        Some(ObjectView::Instance { class, fields, .. }) => {
+            push_instance(run, a, units, class.0, fields)
         }
-        Some(Object::Closure { .. }) => push_bytes(units, b"Closure"),
-        Some(Object::Bound { .. }) => push_bytes(units, b"Closure"),
+        Some(ObjectView::Closure { .. }) => push_bytes(units, b"Closure"),
+        Some(ObjectView::Bound { .. }) => push_bytes(units, b"Closure"),
         _ => push_class(run.alloc, a, units, class_of(run, a, value)),
     }
 }

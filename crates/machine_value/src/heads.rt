@@ -1,14 +1,16 @@
 // What a check looks at of a value: its class with type arguments, or the function that it is (ECMA-408, 19.1 Static Types).
 ghost use Rattle.std.specs.Prelude.{◌≡◌, Some, IfOk};
-ghost use Rattle.dart_ir.specs.Object.{heap_object, head_ty};
+ghost use Rattle.dart_ir.specs.Object.{head_ty};
+ghost use Rattle.dart_store.specs.ObjectView.{viewed_object};
 ghost use Rattle.evaluation.specs.Values.{head_of, method_head, object_head};
 ghost use Rattle.machine_frame.specs.Outside.{setting_of};
 
 use crate::types::arguments_of;
 use dart_ir::number::DeclId;
-use dart_ir::object::{Head, Object};
+use dart_ir::object::Head;
 use dart_ir::types::try_clone_types;
 use dart_ir::value::Value;
+use dart_store::view::ObjectView;
 use machine_frame::around::{Around, Fault};
 use machine_frame::run::Run;
 use machine_lookup::program::{class_of_function, member_function, member_owner};
@@ -34,27 +36,27 @@ pub fn head_of(run: &Run, a: Around, value: Value) -> Result<Head, Fault>
 
 /// The same of an object.
 #[tactic(auto, using(crate::proofs::Supertypes::listed))]
-fn object_head(run: &Run, a: Around, object: &Object) -> Result<Head, Fault>
-    ensures { IfOk result (λ head. head_ty head ≡ object_head (setting_of a.entry) run.now.store (Some (heap_object object.now))) }
+fn object_head(run: &Run, a: Around, object: ObjectView) -> Result<Head, Fault>
+    ensures { IfOk result (λ head. head_ty head ≡ object_head (setting_of a.entry) run.now.store (Some (viewed_object object.entry))) }
 {
     match object {
-        Object::Closure {
+        ObjectView::Closure {
             decl,
             receiver: _,
             args,
             cells: _,
-        } => Ok(Head::Function(*decl, try_clone_types(run.alloc, args)?)),
-        Object::Bound { receiver, member } => {
+        } => Ok(Head::Function(decl, try_clone_types(run.alloc, args)?)),
+        ObjectView::Bound { receiver, member } => {
             let owner = member_owner(a.program.core(), member.0);
             let f = member_function(a.program.core(), member.0);
-            method_head(run, a, *receiver, owner, f)
+            method_head(run, a, receiver, owner, f)
         }
-        Object::Instance {
+        ObjectView::Instance {
             class,
             args,
             fields: _,
-        } => Ok(Head::Of(*class, try_clone_types(run.alloc, args)?)),
-        Object::List {
+        } => Ok(Head::Of(class, try_clone_types(run.alloc, args)?)),
+        ObjectView::List {
             args,
             items: _,
             fixed: _,
@@ -62,16 +64,16 @@ fn object_head(run: &Run, a: Around, object: &Object) -> Result<Head, Fault>
             let arguments = try_clone_types(run.alloc, args)?;
             Ok(Head::Of(a.setup.known.list_class, arguments))
         }
-        Object::Text(_) => Ok(Head::Of(a.setup.known.string_class, Vec::new(run.alloc))),
-        Object::TypeValue(_) => Ok(Head::Of(a.setup.known.type_class, Vec::new(run.alloc))),
-        Object::SendPort {
+        ObjectView::Text(_) => Ok(Head::Of(a.setup.known.string_class, Vec::new(run.alloc))),
+        ObjectView::TypeValue(_) => Ok(Head::Of(a.setup.known.type_class, Vec::new(run.alloc))),
+        ObjectView::SendPort {
             isolate: _,
             port: _,
         } => Ok(Head::Of(a.setup.known.send_port_class, Vec::new(run.alloc))),
-        Object::ReceivePort { port: _ } => {
+        ObjectView::ReceivePort { port: _ } => {
             Ok(Head::Of(a.setup.known.receive_port_class, Vec::new(run.alloc)))
         }
-        Object::Cell {
+        ObjectView::Cell {
             value: _,
             counted: _,
         } => Ok(Head::Null),

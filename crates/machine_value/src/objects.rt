@@ -68,8 +68,9 @@ pub fn make_closure<'a>(run: &mut Run<'a>, a: Around<'a>, f: u32) -> Result<Cont
     ensures less { IfOk result (λ c. work run.new c < room run.old + 6) }
 {
     let args = arguments_here(run, a)?;
-    let mut cells = Vec::new(run.alloc);
-    capture(run, a, function_captures(a.program.core(), f), &mut cells)?;
+    let captures = function_captures(a.program.core(), f);
+    let mut cells = Vec::with_capacity(run.alloc, captures.len())?;
+    capture(run, a, captures, &mut cells)?;
     let object = Object::Closure {
         decl: DeclId(f),
         receiver: run.body.this,

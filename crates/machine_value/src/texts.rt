@@ -15,6 +15,7 @@ use dart_base::units::Units;
 use dart_ir::kind::ThrowKind;
 use dart_ir::object::Object;
 use dart_ir::value::Value;
+use dart_store::view::ObjectView;
 use machine_frame::around::{Around, Fault};
 use machine_frame::run::{Control, Run};
 use machine_lookup::row::{cut, last_of};
@@ -34,8 +35,8 @@ pub fn append_text(run: &Run, a: Around, value: Value, units: &mut Units) -> Res
             }
         },
         Value::At(r) => match run.store.get(r) {
-            Some(Object::Text(text)) => {
-                units.append(text.as_slice())?;
+            Some(ObjectView::Text(text)) => {
+                units.append(text)?;
                 Ok(true)
             }
             _ => Ok(false),

@@ -1,7 +1,7 @@
 // Type arguments in scope, and types over them (ECMA-408, 14 Generics).
 ghost use Rattle.std.specs.Prelude.{◌≡◌, ◌++◌, Some, None, true, false, map, length, IfOk, MatchOption};
 ghost use Rattle.dart_ir.specs.Ty.{ty, of_list, nil, class as class_of};
-ghost use Rattle.dart_ir.specs.Object.{heap_object};
+ghost use Rattle.dart_store.specs.ObjectView.{viewed_object};
 ghost use Rattle.dart_type.specs.Instance.{instance};
 ghost use Rattle.core_program.specs.ProgramView as p;
 ghost use Rattle.evaluation.specs.State.{now};
@@ -13,9 +13,9 @@ ghost use Rattle.machine_frame.specs.Frames.{seen, source_of};
 
 use core_program::program::{CoreProgram, FunctionKind};
 use dart_ir::number::ClassId;
-use dart_ir::object::Object;
 use dart_ir::types::{TypeRef, Types, try_clone_types};
 use dart_ir::value::Value;
+use dart_store::view::ObjectView;
 use dart_type::instance::{TypeFault, instantiate};
 use machine_frame::around::{Around, Fault};
 use machine_frame::run::{Run, Source};
@@ -62,7 +62,7 @@ fn closure_arguments(run: &Run) -> Result<Types, Fault>
     };
     match run.store.get(r) {
         Some(
-            Object::Closure {
+            ObjectView::Closure {
                 decl: _,
                 receiver: _,
                 args,
@@ -126,38 +126,41 @@ pub fn value_type(run: &Run, a: Around, value: Value) -> Result<Option<TypeRef>,
 }
 
 /// The type of an object; none of a cell.
-fn object_type(alloc: Global, a: Around, object: &Object) -> Result<Option<TypeRef>, Fault>
-    ensures { IfOk result (λ found. p.ty_option found ≡ object_type (setting_of a.entry) (Some (heap_object object.now))) }
+fn object_type(alloc: Global, a: Around, object: ObjectView) -> Result<Option<TypeRef>, Fault>
+    ensures { IfOk result (λ found. p.ty_option found ≡ object_type (setting_of a.entry) (Some (viewed_object object.entry))) }
 {
     match object {
-        Object::Instance {
+        ObjectView::Instance {
             class,
             args,
             fields: _,
-        } => of_class(alloc, *class, args),
-        Object::List {
+        } => of_class(alloc, class, args),
+        ObjectView::List {
             args,
             items: _,
             fixed: _,
         } => of_class(alloc, a.setup.known.list_class, args),
-        Object::Text(_) => Ok(Some(plain(alloc, a.setup.known.string_class))),
-        Object::Closure {
+        ObjectView::Text(_) => Ok(Some(plain(alloc, a.setup.known.string_class))),
+        ObjectView::Closure {
             decl: _,
             receiver: _,
             args: _,
             cells: _,
         } => Ok(Some(plain(alloc, a.program.core().classes.function))),
-        Object::Bound {
+        ObjectView::Bound {
             receiver: _,
             member: _,
         } => Ok(Some(plain(alloc, a.program.core().classes.function))),
-        Object::TypeValue(_) => Ok(Some(plain(alloc, a.setup.known.type_class))),
-        Object::SendPort {
+        ObjectView::TypeValue(_) => Ok(Some(plain(alloc, a.setup.known.type_class))),
+        ObjectView::SendPort {
             isolate: _,
             port: _,
         } => Ok(Some(plain(alloc, a.setup.known.send_port_class))),
-        Object::ReceivePort { port: _ } => Ok(Some(plain(alloc, a.setup.known.receive_port_class))),
-        Object::Cell {
+        ObjectView::ReceivePort { port: _ } => Ok(Some(plain(
+            alloc,
+            a.setup.known.receive_port_class,
+        ))),
+        ObjectView::Cell {
             value: _,
             counted: _,
         } => Ok(None),
@@ -166,8 +169,8 @@ fn object_type(alloc: Global, a: Around, object: &Object) -> Result<Option<TypeR
 
 /// A class with a copy of type arguments.
 #[tactic(auto, using(dart_ir::proofs::View::views))]
-fn of_class(alloc: Global, class: ClassId, arguments: &Types) -> Result<Option<TypeRef>, Fault>
-    ensures { IfOk result (λ found. p.ty_option found ≡ Some (class_of class.0 (of_list (map ty arguments.now.items)))) }
+fn of_class(alloc: Global, class: ClassId, arguments: &[TypeRef]) -> Result<Option<TypeRef>, Fault>
+    ensures { IfOk result (λ found. p.ty_option found ≡ Some (class_of class.0 (of_list (map ty arguments.now)))) }
 {
     let copies = try_clone_types(alloc, arguments)?;
     Ok(Some(TypeRef::Class(class, copies)))

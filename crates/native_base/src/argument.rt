@@ -3,9 +3,9 @@ ghost use Rattle.std.specs.Prelude.{◌≡◌, MatchOption, Some, None};
 ghost use Rattle.native_base.specs.Plan as spec;
 
 use dart_base::units::Units;
-use dart_ir::object::Object;
 use dart_ir::value::Value;
 use dart_store::store::Store;
+use dart_store::view::ObjectView;
 use native_number::number::number_of;
 
 /// The place that a number is among so many, or `None` where it lies outside.
@@ -38,7 +38,7 @@ pub fn text_at<'a>(literals: &'a [Units], store: &'a Store, value: Value) -> Opt
             Some(units.as_slice())
         }
         Value::At(r) => match store.get(r) {
-            Some(Object::Text(units)) => Some(units.as_slice()),
+            Some(ObjectView::Text(units)) => Some(units),
             _ => None,
         },
         _ => None,

@@ -42,11 +42,11 @@ fn type_argument(alloc: Global, types: &[TypeRef]) -> Result<Types, AllocError>
 fn nulls(alloc: Global, count: u32) -> Result<Values, AllocError>
     ensures { IfOk result (λ values. values ≡ replicate count Value.Null) }
 {
-    let mut values = Values::new(alloc);
+    let mut items = Vec::with_capacity(alloc, count as usize)?;
     for _added in 0..count {
-        values.push(Value::Null)?;
+        items.push(Value::Null)?;
     }
-    Ok(values)
+    Ok(Values::from_vec(items))
 }
 
 // An empty list that grows.

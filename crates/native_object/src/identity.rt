@@ -6,10 +6,10 @@ ghost use Rattle.native_object.specs.IdentityView.{seen, method};
 use crate::types::same_type;
 use dart_base::units::Units;
 use dart_ir::number::{DeclId, MemberId, Ref};
-use dart_ir::object::Object;
 use dart_ir::types::TypeRef;
 use dart_ir::value::{Value, integer_of};
 use dart_store::store::{Kind, Store};
+use dart_store::view::ObjectView;
 
 /// What of a value tells whether another one is the same.
 #[derive(Clone, Copy)]
@@ -28,8 +28,8 @@ fn object_identity(store: &Store, r: Ref) -> Identity<'_>
     ensures { seen result ≡ spec.object_identity r.0 (slice_get store.now.objects r.0) }
 {
     match store.get(r) {
-        Some(Object::Text(units)) => Identity::Text(units.as_slice()),
-        Some(Object::TypeValue(t)) => Identity::Type(t),
+        Some(ObjectView::Text(units)) => Identity::Text(units),
+        Some(ObjectView::TypeValue(t)) => Identity::Type(t),
         _ => Identity::Object(r),
     }
 }
@@ -164,15 +164,15 @@ fn object_hash(store: &Store, r: Ref) -> u64
     ensures { result ≡ spec.object_hash store.now r.0 (slice_get store.now.objects r.0) }
 {
     match store.get(r) {
-        Some(Object::Text(units)) => text_hash(units.as_slice()),
-        Some(Object::TypeValue(_)) => 3,
+        Some(ObjectView::Text(units)) => text_hash(units),
+        Some(ObjectView::TypeValue(_)) => 3,
         Some(
-            Object::Bound {
+            ObjectView::Bound {
                 receiver: _,
                 member: _,
             },
         ) => 4,
-        Some(Object::SendPort { isolate: _, port }) => u64::from(*port),
+        Some(ObjectView::SendPort { isolate: _, port }) => u64::from(port),
         _ => store.number(r),
     }
 }

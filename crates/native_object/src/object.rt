@@ -18,6 +18,7 @@ use dart_ir::object::Object;
 use dart_ir::types::{TypeRef, try_clone_types};
 use dart_ir::value::Value;
 use dart_store::store::Store;
+use dart_store::view::ObjectView;
 use native_base::plan::{Planned, answer, number, throw};
 use std::alloc::{AllocError, Global};
 
@@ -40,19 +41,19 @@ fn object_type(
     ensures { IfOk result (λ t. ty t ≡ shown.object_type known (slice_get store.now.objects r.0)) }
 {
     match store.get(r) {
-        Some(Object::Instance { class, args, .. }) => {
-            Ok(TypeRef::Class(*class, try_clone_types(alloc, args)?))
+        Some(ObjectView::Instance { class, args, .. }) => {
+            Ok(TypeRef::Class(class, try_clone_types(alloc, args)?))
         }
-        Some(Object::List { args, .. }) => {
+        Some(ObjectView::List { args, .. }) => {
             Ok(TypeRef::Class(known.list, try_clone_types(alloc, args)?))
         }
-        Some(Object::Text(_)) => Ok(plain(alloc, known.string)),
-        Some(Object::Closure { .. }) | Some(Object::Bound { .. }) => {
+        Some(ObjectView::Text(_)) => Ok(plain(alloc, known.string)),
+        Some(ObjectView::Closure { .. }) | Some(ObjectView::Bound { .. }) => {
             Ok(plain(alloc, known.function))
         }
-        Some(Object::TypeValue(_)) => Ok(plain(alloc, known.type_class)),
-        Some(Object::SendPort { .. }) => Ok(plain(alloc, known.send_port)),
-        Some(Object::ReceivePort { .. }) => Ok(plain(alloc, known.receive_port)),
+        Some(ObjectView::TypeValue(_)) => Ok(plain(alloc, known.type_class)),
+        Some(ObjectView::SendPort { .. }) => Ok(plain(alloc, known.send_port)),
+        Some(ObjectView::ReceivePort { .. }) => Ok(plain(alloc, known.receive_port)),
         _ => Ok(plain(alloc, known.null)),
     }
 }

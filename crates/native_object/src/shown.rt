@@ -17,6 +17,7 @@ use dart_ir::object::Object;
 use dart_ir::types::TypeRef;
 use dart_ir::value::{Value, integer_of};
 use dart_store::store::Store;
+use dart_store::view::ObjectView;
 use native_base::plan::{Planned, answer};
 use std::alloc::{AllocError, Global};
 
@@ -178,13 +179,15 @@ fn object_text(alloc: Global, a: &Around<'_>, store: &Store, r: Ref) -> Result<P
     ensures { IfOk result (λ plan. planned plan ≡ spec.object_text (around a.now) (Value.At r) (slice_get store.now.objects r.0)) }
 {
     match store.get(r) {
-        Some(Object::Text(_)) => Ok(answer(Value::At(r))),
-        Some(Object::Closure { .. }) | Some(Object::Bound { .. }) => new_text(alloc, b"Closure"),
-        Some(Object::TypeValue(t)) => type_text(alloc, a, t),
-        Some(Object::Instance { class, .. }) => instance_text(alloc, a, *class),
-        Some(Object::List { .. }) => instance_text(alloc, a, a.known.list),
-        Some(Object::SendPort { .. }) => instance_text(alloc, a, a.known.send_port),
-        Some(Object::ReceivePort { .. }) => instance_text(alloc, a, a.known.receive_port),
+        Some(ObjectView::Text(_)) => Ok(answer(Value::At(r))),
+        Some(ObjectView::Closure { .. }) | Some(ObjectView::Bound { .. }) => new_text(
+            alloc, b"Closure",
+        ),
+        Some(ObjectView::TypeValue(t)) => type_text(alloc, a, t),
+        Some(ObjectView::Instance { class, .. }) => instance_text(alloc, a, class),
+        Some(ObjectView::List { .. }) => instance_text(alloc, a, a.known.list),
+        Some(ObjectView::SendPort { .. }) => instance_text(alloc, a, a.known.send_port),
+        Some(ObjectView::ReceivePort { .. }) => instance_text(alloc, a, a.known.receive_port),
         _ => instance_text(alloc, a, a.known.null),
     }
 }

@@ -9,10 +9,10 @@ ghost use Rattle.native_object.specs.ShownView.{around};
 
 use dart_ir::native::NativeId;
 use dart_ir::number::{ClassId, Ref};
-use dart_ir::object::Object;
 use dart_ir::types::TypeRef;
 use dart_ir::value::{Value, integer_of};
 use dart_store::store::Store;
+use dart_store::view::ObjectView;
 use native_object::shown::{Around, all_dynamic, class_name};
 
 /// A count that passes this one stands still at it.
@@ -115,13 +115,13 @@ fn object_length(a: &Around<'_>, store: &Store, r: Ref) -> u128
     ensures { result ≡ min (2 ^ 126) (work (shown.object_text (around a.now) (Value.At r) (slice_get store.now.objects r.0))) }
 {
     match store.get(r) {
-        Some(Object::Text(_)) => 0,
-        Some(Object::Closure { .. }) | Some(Object::Bound { .. }) => 7,
-        Some(Object::TypeValue(t)) => type_length(a, t),
-        Some(Object::Instance { class, .. }) => instance_length(a, *class),
-        Some(Object::List { .. }) => instance_length(a, a.known.list),
-        Some(Object::SendPort { .. }) => instance_length(a, a.known.send_port),
-        Some(Object::ReceivePort { .. }) => instance_length(a, a.known.receive_port),
+        Some(ObjectView::Text(_)) => 0,
+        Some(ObjectView::Closure { .. }) | Some(ObjectView::Bound { .. }) => 7,
+        Some(ObjectView::TypeValue(t)) => type_length(a, t),
+        Some(ObjectView::Instance { class, .. }) => instance_length(a, class),
+        Some(ObjectView::List { .. }) => instance_length(a, a.known.list),
+        Some(ObjectView::SendPort { .. }) => instance_length(a, a.known.send_port),
+        Some(ObjectView::ReceivePort { .. }) => instance_length(a, a.known.receive_port),
         _ => instance_length(a, a.known.null),
     }
 }

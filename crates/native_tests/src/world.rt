@@ -14,6 +14,7 @@ use dart_ir::types::TypeRef;
 use dart_ir::value::{Value, integer_value};
 use dart_native::native::call;
 use dart_store::store::{Store, StoreFault};
+use dart_store::view::ObjectView;
 use native_object::known::KnownClasses;
 use native_object::shown::Around;
 use native_steps::steps::steps;
@@ -320,7 +321,7 @@ impl World {
             return false;
         };
         match self.store.get(r) {
-            Some(Object::Text(units)) => same(units.as_slice(), text),
+            Some(ObjectView::Text(units)) => same(units, text),
             _ => false,
         }
     }
@@ -331,8 +332,8 @@ impl World {
             return false;
         };
         match self.store.get(r) {
-            Some(Object::List { args, items, fixed }) => {
-                args.len() == 1 && items.len() == count && *fixed == is_fixed
+            Some(ObjectView::List { args, items, fixed }) => {
+                args.len() == 1 && items.len() == count && fixed == is_fixed
             }
             _ => false,
         }

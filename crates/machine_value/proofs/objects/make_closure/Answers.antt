@@ -17,7 +17,7 @@ returns-clause-meaning c =
     let F : ℕ → Value = λ x. cell_in (seen r).activation (room (setting_of c.args.a) r.store (seen r).activation x) in
     let cells : c.from_vec.result ≡ cells_for (setting_of c.args.a) r.store (seen r).activation (function_at (setting_of c.args.a).program c.args.f) =
     c.from_vec.ensures ∙ c.in_ok-capture.ensures
-    ∙ ap (λ l. l ++ map F c.function_captures.result.now) c.new-cells.ensures.items ∙ ap (map F) c.function_captures.ensures
+    ∙ ap (λ l. l ++ map F c.function_captures-captures.result.now) c.in_ok-cells.ensures.items ∙ ap (map F) c.function_captures-captures.ensures
     ∙ ap (λ (p : CoreProgram). map F (function_captures (function_at (v.program p) c.args.f))) c.core.ensures in
     let P : Outcome → Type 0 = λ o. IfOk c.place.result (λ k. going c.args.a c.place.new.run k ≡ o) in
     subst P (closure_made c.args.a r c.args.f (map ty c.in_ok-args.args.items) c.from_vec.result c.in_ok-args.ensures cells) c.place.ensures.meaning

@@ -5,4 +5,4 @@ use Rattle.dart_ir.specs.declared.value.Value.TheVariants.{Null}
 use Rattle.native_list.proofs.made.nulls.Given as goal
 
 abbrev pub invariant-loop-added : goal.invariant-loop-added
-invariant-loop-added l = l.values ≡ replicate l._added Null
+invariant-loop-added l = l.items.items ≡ replicate l._added Null
