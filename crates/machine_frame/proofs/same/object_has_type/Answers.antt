@@ -1,7 +1,8 @@
-use Rattle.std.proofs.Common.{Some, map, sym, ap, ◌∙◌}
-use Rattle.dart_ir.specs.declared.object.Object.{Object}
-use Rattle.dart_ir.specs.Object.{heap_object, of, HeadTy}
+use Rattle.std.proofs.Common.{Some, map, ap, ◌∙◌}
+use Rattle.dart_ir.specs.Object.{of, HeadTy}
 use Rattle.dart_ir.specs.Ty.{of_list, ty}
+use Rattle.dart_store.specs.declared.view.ObjectView.{ObjectView}
+use Rattle.dart_store.specs.ObjectView.{viewed_object}
 use Rattle.dart_type.specs.Instance.{instance}
 use Rattle.evaluation.specs.Checks.{is_of_type}
 use Rattle.evaluation.specs.Values.{object_head}
@@ -15,8 +16,7 @@ returns-in-Instance c = λ e h args.
     let k = checking_of c.args.a in
     let t = instance (of_list args) (ty c.args.wanted.now) in
     ap (λ (head : HeadTy). is_of_type k head t)
-    (ap (λ (o : Object). object_head (setting_of c.args.a) h (Some (heap_object o))) form.is ∙ ap (of form.class.0) (listed (map ty form.args.items)))
-    ∙ ap (λ ts. is_of_type k (of form.class.0 (map ty ts)) t) (sym c.as_slice.ensures.value)
+    (ap (λ (o : ObjectView). object_head (setting_of c.args.a) h (Some (viewed_object o))) form.is ∙ ap (of form.class.0) (listed (map ty form.args.now)))
     ∙ c.is_type.ensures e args
 
 pub returns-in-List : goal.returns-in-List
@@ -26,6 +26,5 @@ returns-in-List c = λ e h args.
     let list = c.args.a.setup.now.known.list_class.0 in
     let t = instance (of_list args) (ty c.args.wanted.now) in
     ap (λ (head : HeadTy). is_of_type k head t)
-    (ap (λ (o : Object). object_head (setting_of c.args.a) h (Some (heap_object o))) form.is ∙ ap (of list) (listed (map ty form.args.items)))
-    ∙ ap (λ ts. is_of_type k (of list (map ty ts)) t) (sym c.as_slice-in-List.ensures.value)
+    (ap (λ (o : ObjectView). object_head (setting_of c.args.a) h (Some (viewed_object o))) form.is ∙ ap (of list) (listed (map ty form.args.now)))
     ∙ c.is_type-in-List.ensures e args
