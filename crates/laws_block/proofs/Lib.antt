@@ -30,7 +30,6 @@ pub mod Regrouped
 pub mod Runs
 pub mod Several
 pub mod Single
-pub mod SwitchFault
 pub mod SwitchParts
 pub mod Switches
 pub mod Switching

@@ -92,7 +92,7 @@ abbrev pub rest_height : Rest → ℕ
 rest_height x = max (height.value_height x.1.0) (list_height x.1.1.1)
 
 abbrev pub default_at : ℕ → Reader Token Rest
-default_at n = word w.Default ~ always_gives t.omitted ~ sign s.Colon ~ stmts_at n true
+default_at n = word w.Default ~ always_gives t.omitted ~ sign s.Colon ~ stmts_at n false
 
 abbrev pub case_at : ℕ → Reader Token Rest
 case_at n = word w.Case ~ mapped (t.given None) (closed_at n) ~ sign s.Colon ~ stmts_at n true

@@ -83,7 +83,7 @@ fn default_rest<S: Fn(Global, &mut Cursor<'_>, usize) -> Result<(Stmt, usize), R
 {
     let word = cursor.expect_word(Word::Default)?;
     let colon = cursor.expect(Sign::Colon)?;
-    let (statements, height) = stmts(inner, cursor, depth, true)?;
+    let (statements, height) = stmts(inner, cursor, depth, false)?;
     Ok((
         PartRest {
             word,

@@ -239,7 +239,7 @@ to_parts ((labels, (word, (value, (colon, stmts)))) ∷ more) =
 unfoldable pub part_over : ℕ → Reader Token Expr → Reader Token Stmt → Reader Token Part
 part_over n expr stmt = many class_of always names label
     ~ by_first class_of (this_word w.Default)
-    (word w.Default ~ always_gives t.omitted ~ sign s.Colon ~ stmts_where n stmt_in_part_comes stmt)
+    (word w.Default ~ always_gives t.omitted ~ sign s.Colon ~ stmts_where n stmt_comes stmt)
     (word w.Case ~ mapped (t.given None) expr ~ sign s.Colon
     ~ stmts_where n stmt_in_part_comes stmt)
 
