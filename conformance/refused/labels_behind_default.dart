@@ -1,0 +1,6 @@
+main() {
+  switch (1) {
+    default:
+      a: case 1:
+  }
+}
