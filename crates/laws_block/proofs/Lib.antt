@@ -30,6 +30,7 @@ pub mod Regrouped
 pub mod Runs
 pub mod Several
 pub mod Single
+pub mod SwitchDepths
 pub mod SwitchParts
 pub mod Switches
 pub mod Switching

@@ -16,6 +16,7 @@ use Rattle.laws_block.specs.Statements.{StatementsReadAt, CompoundReadAt, Beside
 use Rattle.laws_block.proofs.Combined.{plain_begun}
 use Rattle.laws_block.proofs.Depths.{blocks_at, holders_at, tries_at, compounds_at}
 use Rattle.laws_block.proofs.For.{for_begun}
+use Rattle.laws_block.proofs.SwitchDepths.{switches_at}
 use Rattle.laws_block.proofs.Whole.{statements_at}
 
 -- where there is no room for a node, there are none
@@ -55,7 +56,7 @@ module _ (asked : Asked) where
   next_compound n below =
       let b : BesidesReadAt n = asked.besides n below.blocks in
       let st : StatementsReadAt n = below.here.statements in
-      compounds_at n (for_begun n st b.for_parts (asked.heads n)) (holders_at n st b.condition) (asked.switches n st b) (tries_at n below.here.block b.catch_clause)
+      compounds_at n (for_begun n st b.for_parts (asked.heads n)) (holders_at n st b.condition) (switches_at n b below.here.block below.here.compound (asked.apart n)) (tries_at n below.here.block b.catch_clause)
 
   none_below : (m : ℕ) → m ≤ 0 → BlockReadAt m
   none_below m le = let e : 0 ≡ m = omega (arith, le) in subst BlockReadAt e no_blocks

@@ -1,5 +1,4 @@
--- The law of `switch` (ECMA-408, 17.9 Switch), over any reader of statements, with a reader of parts that behind `default` reads all labels as
--- those of statements.
+-- The law of `switch` (ECMA-408, 17.9 Switch), over any reader of statements.
 use Rattle.std.proofs.Common.{◌≡◌, ℕ, zero, suc, ◌<◌, ◌≤◌, Bool, true, false, if◌then◌else◌, List, [], ◌∷◌, ◌++◌, length, None, Some, Ok, Err, refl, ap, ◌∙◌, append_assoc, arith}
 use Rattle.std.proofs.lemmas.List.{length-append}
 use Rattle.std.specs.List.{flat_map}
@@ -42,19 +41,13 @@ use Rattle.laws_block.proofs.PartPhrases.{Rest, More, flat, to_default, to_case}
 use Rattle.laws_block.proofs.Ends.{Ends_run}
 use Rattle.laws_block.proofs.Runs.{sound_turns}
 use Rattle.laws_block.proofs.SwitchParts.{to_switch, Whole, all_parts_laws}
-use Rattle.laws_block.proofs.Switching.{behind_parts, rest_at, rest_reader, more_reader, rest_laws, more_laws, labels_laws}
-
--- a part, behind which further ones come only if it is a case
-abbrev pub part_of : ℕ → Reader Token Expr → Reader Token Stmt → Reader Token Part
-part_of n expr stmt = both (many_reader class_of always names label) (by_first class_of (this_word w.Default)
-    (both (word w.Default) (both (always_gives t.omitted) (both (sign s.Colon) (stmts_where n stmt_comes stmt))))
-    (both (word w.Case) (both (mapped (t.given None) expr) (both (sign s.Colon) (stmts_where n stmt_in_part_comes stmt)))))
+use Rattle.laws_block.proofs.Switching.{Parted, behind_parts, rest_at, rest_reader, more_reader, rest_laws, more_laws, labels_laws}
 
 module _ (n : ℕ) {stmt : Reader Token Stmt} {p : Phrase Stmt} (S : StmtReads n stmt p stmt_first) (N : Partless p) (D : Reads (stmts_where n stmt_comes stmt) (many p) stmt_first (λ xs. behind_list) true)
     (expr : Reader Token Expr) (q : Phrase Expr) (X : Reads (both expr (sign s.Colon)) (q ~ l.sign s.Colon) expr_first nowhere false)
-    (E : (r : Phrase Rest) → ((t : Token) (ts : List Token) → r.front (t ∷ ts) → has case_codes (class_of t) ≡ true) → ((y : Rest) (rest : List Token) → r.Fits y → starts class_of case_codes (r.spelling y ++ rest) ≡ true) → Ends_run p stmt_in_part_comes (opt (many l.label ~ r)) part_codes_first behind_parts) where
+    (E : Parted p) where
   abbrev part : Reader Token Part
-  part = part_of n expr stmt
+  part = i.part_over n expr stmt
 
   abbrev turns : ℕ → Reader Token (List Part)
   turns = many_turns class_of is_case part_codes_first part
@@ -228,6 +221,7 @@ module _ (n : ℕ) {stmt : Reader Token Stmt} {p : Phrase Stmt} (S : StmtReads n
   labelled m k before ts (Err x) e few less = refl
 
   one_turn : (m k : ℕ) → Alike m k → (ts : List Token) (c : Bool) → length ts ≤ suc m → length ts ≤ suc k → (if c then and_then (part ts) (goes_on m) else Ok ([], ts)) ≡ flattened (when c (both labels (rest_by (suc k))) ts)
+  unfolding i.part_over
   one_turn m k before ts true few less = labelled m k before ts (labels ts) refl few less
   one_turn m k before ts false few less = refl
 
@@ -239,7 +233,7 @@ module _ (n : ℕ) {stmt : Reader Token Stmt} {p : Phrase Stmt} (S : StmtReads n
   as_many (suc m) (suc k) (u ∷ ts) few less = one_turn m k (as_many m k) (u ∷ ts) (has part_codes_first (class_of u)) few less
 
   -- as many parts as there are tokens
-  pub parts_same : (ts : List Token) → many_reader class_of is_case part_codes_first (part_of n expr stmt) ts ≡ flattened (at_most (length ts) ts)
+  pub parts_same : (ts : List Token) → many_reader class_of is_case part_codes_first (i.part_over n expr stmt) ts ≡ flattened (at_most (length ts) ts)
   parts_same ts = as_many (length ts) (length ts) ts (omega arith) (omega arith)
 
   -- ---- switch ( expression ) { parts }
@@ -280,5 +274,5 @@ module _ (n : ℕ) {stmt : Reader Token Stmt} {p : Phrase Stmt} (S : StmtReads n
     unfolding stmt_tokens
     switch_said = parts_say stmt_tokens to_stmt (seq_agrees (word_agrees w.Switch) (seq_agrees condition_agrees (seq_agrees (sign_agrees s.LeftBrace) (seq_agrees parts_agree (sign_agrees s.RightBrace))))) (λ x fits. simp append_assoc)
 
-    pub switch_laws : Reads (made₅ a_switch (both (word w.Switch) (both (i.condition_over expr) (both (sign s.LeftBrace) (both (mapped to_parts (many_reader class_of is_case part_codes_first (part_of n expr stmt))) (sign s.RightBrace)))))) (made stmt_tokens to_stmt switch_phrase) (this_word w.Switch) nowhere false
+    pub switch_laws : Reads (made₅ a_switch (both (word w.Switch) (both (i.condition_over expr) (both (sign s.LeftBrace) (both (mapped to_parts (many_reader class_of is_case part_codes_first (i.part_over n expr stmt))) (sign s.RightBrace)))))) (made stmt_tokens to_stmt switch_phrase) (this_word w.Switch) nowhere false
     switch_laws = made_laws (both_laws (word_reads w.Switch) (both_laws C (both_laws (sign_reads s.LeftBrace) (both_any_laws parts_laws (sign_reads s.RightBrace) (λ x fits. apart refl)) (λ place fits. apart_none _)) (λ x fits. apart_none (these s.LeftBrace))) (λ place fits. apart_none (these s.LeftParenthesis))) to_stmt stmt_tokens nowhere switch_said (λ x fits. within_none [])

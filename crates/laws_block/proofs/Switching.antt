@@ -1,5 +1,5 @@
 -- The law of the parts of a `switch`, at most so many, over any reader of statements (ECMA-408, 17.9 Switch). Behind `default` all labels are
--- those of statements; the reader that stops there before labels with `case` or `default` behind them is another one.
+-- those of statements.
 use Rattle.std.proofs.Common.{◌≡◌, ℕ, zero, suc, true, false, List, [], ◌∷◌, ◌++◌, None, Some, refl, ap}
 use Rattle.std.proofs.lemmas.List.{append-nil}
 use Rattle.std.specs.List.{flat_map}
@@ -38,6 +38,11 @@ use Rattle.laws_block.proofs.Runs.{run_laws}
 abbrev pub behind_parts : List ℕ
 behind_parts = stmt_first ++ (part_codes_first ++ still)
 
+-- a test tells statements from any rests of parts, behind the labels of either
+abbrev pub Parted : Phrase Stmt → Type 1
+Parted p = (r : Phrase Rest) → ((t : Token) (ts : List Token) → r.front (t ∷ ts) → has case_codes (class_of t) ≡ true) → ((y : Rest) (rest : List Token) → r.Fits y → starts class_of case_codes (r.spelling y ++ rest) ≡ true) →
+    Ends_run p stmt_in_part_comes (opt (many l.label ~ r)) part_codes_first behind_parts
+
 label_list : List Label → List Token
 label_list = flat_map l.label.spelling
 
@@ -49,7 +54,7 @@ list_within = within_union (within_left stmt_first (part_codes_first ++ still)) 
 
 module _ (n : ℕ) {stmt : Reader Token Stmt} {p : Phrase Stmt} (S : StmtReads n stmt p stmt_first) (N : Partless p) (D : Reads (stmts_where n stmt_comes stmt) (many p) stmt_first (λ xs. behind_list) true)
     (expr : Reader Token Expr) (q : Phrase Expr) (X : Reads (both expr (sign s.Colon)) (q ~ l.sign s.Colon) expr_first nowhere false)
-    (E : (r : Phrase Rest) → ((t : Token) (ts : List Token) → r.front (t ∷ ts) → has case_codes (class_of t) ≡ true) → ((y : Rest) (rest : List Token) → r.Fits y → starts class_of case_codes (r.spelling y ++ rest) ≡ true) → Ends_run p stmt_in_part_comes (opt (many l.label ~ r)) part_codes_first behind_parts) where
+    (E : Parted p) where
   abbrev pub rest_at : ℕ → Phrase Rest
   rest_at = rest_of p q
 

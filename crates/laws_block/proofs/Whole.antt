@@ -30,10 +30,12 @@ use Rattle.laws_block.proofs.On.{on_reads}
 use Rattle.laws_block.proofs.Levels.{still_within}
 use Rattle.laws_block.proofs.Beginnings.{type_two, on_second}
 use Rattle.laws_block.proofs.Combined.{made_begun, restated_begun}
-use Rattle.laws_block.proofs.Single.{one_whole, one_filled}
+use Rattle.laws_block.proofs.Single.{one_whole, one_begins, one_filled}
 use Rattle.laws_block.proofs.Declaring.{unlabelled_begun}
 use Rattle.laws_block.proofs.Labels.{label_comes_at, unlabelled, labelled_begun}
 use Rattle.laws_block.proofs.Others.{others_begun}
+use Rattle.laws_block.proofs.PartTests.{ends_run}
+use Rattle.laws_block.proofs.Switching.{Parted, behind_parts}
 
 -- labels change nothing of what ends a statement
 same_open : (labels : List Label) (x : Stmt) → open_try (t.with_labels labels x) ≡ open_try x
@@ -138,6 +140,14 @@ module _ (n : ℕ) (I : SinglesReadAt n) (B : BlockReadAt n) (C : CompoundReadAt
   partless : Partless (p.stmt_of nodes)
   partless = record { no_part = no_part; not_begun = not_begun }
 
+  -- ---- what tells statements from further parts of a `switch`
+
+  with_its_labels : (x : Stmt) → (p.stmt_of nodes).Fits x → (xs : List Label) × (y : Stmt) × AllByRecursion l.label.Fits xs × Bare.Fits y × ((p.stmt_of nodes).spelling x ≡ flat_map l.label.spelling xs ++ Bare.spelling y)
+  with_its_labels x ((xs, y), fits, e) = (xs, y, fits.0, fits.1, ap stmt_tokens (sym e) ∙ said_labels xs y)
+
+  parted : Parted (p.stmt_of nodes)
+  parted r firsts begun = ends_run U (inside refl) (apart refl) A.no_label name_alone (p.stmt_of nodes) with_its_labels (λ ts f. f) (λ ts f. f) (λ t ts f. labelled.laws.firsts t ts f) (λ x rest fits. one_begins labelled x rest fits) r firsts begun behind_parts
+
 -- what stands at a depth is made of its nodes
 reads_at : (n : ℕ) → StmtReads n (i.stmt_of (stage n).nodes) (p.stmt_of (within n).nodes) stmt_first → StmtReads n (stage n).stmt (within n).stmt stmt_first
 unfolding i.stage i.nodes_over p.within p.nodes_over
@@ -151,3 +161,11 @@ partless_at (suc n) N = N
 
 pub statements_at : (n : ℕ) → SinglesReadAt n → BlockReadAt n → CompoundReadAt n → ApartAt n → StatementsReadAt n
 statements_at n I B C A = record { reads = reads_at n (labelled n I B C A); partless = partless_at n (partless n I B C A) }
+
+parted_within : (n : ℕ) → Parted (p.stmt_of (within n).nodes) → Parted (within n).stmt
+unfolding p.within p.nodes_over
+parted_within zero E = E
+parted_within (suc n) E = E
+
+pub parted_at : (n : ℕ) → SinglesReadAt n → BlockReadAt n → CompoundReadAt n → ApartAt n → Parted (within n).stmt
+parted_at n I B C A = parted_within n (parted n I B C A)

@@ -39,6 +39,10 @@ pub record StatementsReadAt (n : ℕ) : Type 0 where
 abbrev pub ConditionReadAt : ℕ → Type 0
 ConditionReadAt n = Reads (i.condition_over (closed (stage n).nodes.exprs)) (p.condition_over (within n)) (these s.LeftParenthesis) nowhere false
 
+-- the expression behind `case`, and its colon (17.9 Switch)
+abbrev pub CaseReadAt : ℕ → Type 0
+CaseReadAt n = Reads (both (closed (stage n).nodes.exprs) (sign s.Colon)) ((within n).nodes.expr_nodes.expr ~ l.sign s.Colon) expr_first nowhere false
+
 -- `catch` with its names (17.11 Try)
 abbrev pub CatchReadAt : ℕ → Type 0
 CatchReadAt n = Reads (stage n).nodes.catch_clause (within n).nodes.catch_clause (this_word w.Catch) nowhere false
@@ -160,13 +164,16 @@ pub record BesidesReadAt (n : ℕ) : Type 0 where
   pub singles : SinglesReadAt n
   pub for_parts : ForPartsReadAt n
   pub condition : ConditionReadAt n
+  pub case_value : CaseReadAt n
   pub catch_clause : CatchReadAt n
 
--- of the readers of all that: that they find their phrases where those of blocks do up to that depth; of that of `switch`: that it does
--- where those of the statements inside and of all that do; and what is asked of the grammar
+-- of `switch`, with what is asked of statements inside
+abbrev pub SwitchesRead : Type 0
+SwitchesRead = (n : ℕ) → BesidesReadAt n → BlockReadAt n → CompoundReadAt n → ApartAt n → SwitchReadAt n
+
+-- of the readers of all that: that they find their phrases where those of blocks do up to that depth; and what is asked of the grammar
 pub record Asked : Type 0 where
   pub besides : (n : ℕ) → ((m : ℕ) → m ≤ n → BlockReadAt m) → BesidesReadAt n
-  pub switches : (n : ℕ) → StatementsReadAt n → BesidesReadAt n → SwitchReadAt n
   pub apart : (n : ℕ) → ApartAt n
   pub heads : (n : ℕ) → HeadsApartAt n
 

@@ -2,7 +2,7 @@
 // runs nothing.
 #![tactic(auto)]
 
-ghost use Rattle.laws_block.specs.Statements.{BlocksRead, HoldersRead, TriesRead, CompoundsRead, ForsRead, StatementsRead, AllRead};
+ghost use Rattle.laws_block.specs.Statements.{BlocksRead, HoldersRead, TriesRead, CompoundsRead, ForsRead, SwitchesRead, StatementsRead, AllRead};
 
 /// At every depth the reader of blocks finds the blocks of the grammar and nothing else, where that of the statements inside finds them
 /// with what is begun behind them (ECMA-408, 17.1 Blocks).
@@ -29,6 +29,12 @@ pub fn fors_read()
     ensures { ForsRead }
 {}
 
+/// At every depth the reader of `switch` finds those of the grammar and nothing else, where the readers of what stands inside do, and where
+/// no list of tokens leaves a choice between a declaration and another statement (ECMA-408, 17.9 Switch).
+pub fn switches_read()
+    ensures { SwitchesRead }
+{}
+
 /// At every depth the reader of compound statements finds those of the grammar, each with what is begun behind it, and nothing else, where
 /// those of each kind do (ECMA-408, 17.5 If, 17.6 For, 17.7 While, 17.8 Do, 17.9 Switch, 17.11 Try).
 pub fn compounds_read()
@@ -43,8 +49,8 @@ pub fn statements_read()
 {}
 
 /// At every depth the readers of blocks, of compound statements and of statements find those of the grammar and nothing else, where the
-/// readers of all that stands beside them do wherever those of blocks do up to that depth, where that of `switch` does over those of
-/// statements, and where no list of tokens leaves a choice between a declaration and an expression (ECMA-408, 17 Statements).
+/// readers of all that stands beside them do wherever those of blocks do up to that depth, and where no list of tokens leaves a choice
+/// between a declaration and an expression (ECMA-408, 17 Statements).
 pub fn all_read()
     ensures { AllRead }
 {}
