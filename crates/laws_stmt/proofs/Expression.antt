@@ -1,5 +1,5 @@
 -- The law of expression statements, whose reader is asked only where no brace comes (ECMA-408, 17.2 Expression Statements).
-use Rattle.std.proofs.Common.{◌≡◌, ℕ, Bool, true, false, List, [], ◌∷◌, ◌++◌, inl, inr, refl, ap, sym, subst}
+use Rattle.std.proofs.Common.{◌≡◌, ℕ, Bool, true, false, List, [], ◌∷◌, ◌++◌, Err, ◌⊎◌, inl, inr, refl, ap, sym, subst}
 use Rattle.std.specs.Str.{bytes_eq}
 use Rattle.dart_base.specs.declared.place.Place.{Place}
 use Rattle.dart_token.specs.declared.token.Token.{Token}
@@ -17,7 +17,7 @@ use Rattle.dart_tree.specs.Tree.{Expr, Stmt, Value}
 use Rattle.dart_tree.specs.Tokens.{expr_tokens, stmt_tokens}
 use Rattle.grammar_laws.specs.Codes.{has, nowhere}
 use Rattle.grammar_laws.specs.Readers.{Reader, either, nothing, starts}
-use Rattle.grammar_laws.proofs.Codes.{apart, clash, has_cases, inside, within_self, within_none}
+use Rattle.grammar_laws.proofs.Codes.{apart, clash, has_cases, inside, not_true, within_self, within_none}
 use Rattle.grammar_laws.proofs.Restated.{made_laws, restated}
 use Rattle.grammar_laws.proofs.Combined.{both_any_laws}
 use Rattle.dart_syntax.specs.Phrases.{Phrase, ◌~◌, made}
@@ -32,6 +32,7 @@ use Rattle.token_codes.proofs.Leaves.{sign_reads, name_has}
 use Rattle.syntax_readers.specs.Primaries.{expr_first}
 use Rattle.syntax_readers.specs.Statements as i
 use Rattle.laws_expr.specs.Nexts.{after_expr}
+use Rattle.laws_expr.proofs.Tokens.{refuses}
 use Rattle.laws_expr.proofs.Guarded.{guarded_laws, GuardedFit, guarded_front}
 use Rattle.laws_stmt.specs.Statements.{unbraced_first}
 use Rattle.laws_stmt.proofs.Jumps.{maybe_laws}
@@ -243,6 +244,20 @@ module _ (expr : Reader Token Expr) (here : p.StmtNodes) (E : Reads expr here.ex
   plain_laws : Reads (i.expression_stmt expr) Plain first nowhere false
   unfolding i.expression_stmt stmt_tokens
   plain_laws = made_laws (both_any_laws (maybe_laws E A) (sign_reads s.Semicolon) (λ v fits. apart refl)) to_stmt stmt_tokens nowhere (λ x fits. refl) (λ x fits. within_self [])
+
+  -- what begins with none of these and no brace is refused
+  pub expression_refused : (ts : List Token) → starts class_of (these s.LeftBrace) ts ≡ false → starts class_of unbraced_first ts ≡ false →
+      i.expression_stmt expr ts ≡ Err ts
+  expression_refused ts no_brace off = refuses plain_laws ts (of ts no_brace off) where
+    brace_or : (c : ℕ) → has first c ≡ true → (has unbraced_first c ≡ true) ⊎ (has (these s.LeftBrace) c ≡ true)
+    brace_or c on = has_cases unbraced_first (these s.LeftBrace) c ((inside {xs = first} {ys = unbraced_first ++ these s.LeftBrace} refl).in_second c on)
+
+    of : (ts : List Token) → starts class_of (these s.LeftBrace) ts ≡ false → starts class_of unbraced_first ts ≡ false → starts class_of first ts ≡ false
+    of [] no_brace off = refl
+    of (u ∷ ts) no_brace off = not_true (has first (class_of u)) (λ on. elim (brace_or (class_of u) on) as (λ _. ⊥) [
+      | inl h ↦ clash (has unbraced_first (class_of u)) h off
+      | inr h ↦ clash (has (these s.LeftBrace) (class_of u)) h no_brace
+    ])
 
   forth : (a : Stmt) → GuardedFit plain_laws unbraced_first a → (p.expression_of here).Fits a
   forth a (fits, on) = (fits, led (stmt_tokens a) on)

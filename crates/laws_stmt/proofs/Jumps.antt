@@ -2,6 +2,7 @@
 use Rattle.std.proofs.Common.{◌≡◌, ℕ, true, false, List, [], ◌++◌, Option, None, Some, inl, inr, refl, sym, subst}
 use Rattle.dart_base.specs.declared.place.Place.{Place}
 use Rattle.dart_token.specs.declared.token.Token.{Token}
+use Rattle.dart_token.specs.declared.sign.Sign.{Sign}
 use Rattle.dart_token.specs.declared.sign.Sign.TheVariants as s
 use Rattle.dart_token.specs.declared.word.Word.{Word}
 use Rattle.dart_token.specs.declared.word.Word.TheVariants as w
@@ -40,7 +41,7 @@ use Rattle.laws_expr.proofs.Behind.{behind_exprs, under_expr}
 
 -- ---- an expression or none
 
-abbrev behind_value : List ℕ
+abbrev pub behind_value : List ℕ
 behind_value = expr_first ++ behind_exprs
 
 abbrev value_first : List ℕ
@@ -68,6 +69,10 @@ module _ {expr : Reader Token Expr} {q : Phrase Expr} (E : Reads expr q expr_fir
   pub condition_laws : Reads (i.condition_over expr) (l.sign s.LeftParenthesis ~ q ~ l.sign s.RightParenthesis) (these s.LeftParenthesis) nowhere false
   unfolding i.condition_over
   condition_laws = both_laws (sign_reads s.LeftParenthesis) (both_laws E (sign_reads s.RightParenthesis) (λ x fits. apart_smaller (under_expr x) (apart refl))) (λ place fits. apart_none expr_first)
+
+  -- an expression and the sign behind it
+  pub before_sign_laws : (which : Sign) → Apart behind_exprs (these which) → Reads (both expr (sign which)) (q ~ l.sign which) expr_first nowhere false
+  before_sign_laws which off = both_laws E (sign_reads which) (λ x fits. apart_smaller (under_expr x) off)
 
   -- ---- jumps
 

@@ -1,4 +1,5 @@
 pub mod Before
+pub mod Besides
 pub mod Bodies
 pub mod Declared
 pub mod Declaring
@@ -11,4 +12,5 @@ pub mod Parameter
 pub mod Parameters
 pub mod Recursion
 pub mod Sorts
+pub mod Updates
 pub mod Variables

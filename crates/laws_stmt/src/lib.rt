@@ -1,6 +1,7 @@
 // The readers of parameters, and of statements as far as they hold no statements, find those of the grammar. The crate runs nothing.
 #![tactic(auto)]
 
+ghost use Rattle.laws_stmt.specs.Besides.{BesidesRead};
 ghost use Rattle.laws_stmt.specs.Statements.{JumpsRead, ParametersRead, DeclaredRead, ReadOverBlocks};
 
 /// At every depth the readers of jumps, of expression statements, of conditions and of `catch` clauses find their phrases
@@ -27,4 +28,11 @@ pub fn declared_read()
 /// Formal Parameters, 17 Statements).
 pub fn read_over_blocks()
     ensures { ReadOverBlocks }
+{}
+
+/// At every depth the readers of declarations, jumps and expression statements, and of all that the heads of statements are
+/// made of, find their phrases of the grammar and nothing else, where those of blocks do up to that depth (ECMA-408, 17
+/// Statements).
+pub fn besides_read()
+    ensures { BesidesRead }
 {}
