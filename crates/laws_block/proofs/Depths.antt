@@ -15,7 +15,8 @@ use Rattle.syntax_readers.specs.Statements as i
 use Rattle.syntax_readers.specs.Statements.{stage, closed}
 use Rattle.laws_block.specs.Begun.{level_of, still_of, ReadsBegun}
 use Rattle.laws_stmt.specs.Statements.{BlockReadAt}
-use Rattle.laws_block.specs.Statements.{StatementsReadAt, ConditionReadAt, CatchReadAt, HoldersReadAt, TryReadAt, ForReadAt, SwitchReadAt, CompoundReadAt}
+use Rattle.laws_stmt.specs.Besides.{ConditionReadAt, CatchReadAt}
+use Rattle.laws_block.specs.Statements.{StatementsReadAt, HoldersReadAt, TryReadAt, ForReadAt, SwitchReadAt, CompoundReadAt}
 use Rattle.laws_block.proofs.Blocks.{block_laws}
 use Rattle.laws_block.proofs.Choices.{if_begun}
 use Rattle.laws_block.proofs.Compounds.{compound_begun}

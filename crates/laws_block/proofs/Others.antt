@@ -19,7 +19,8 @@ use Rattle.syntax_readers.specs.Statements as i
 use Rattle.syntax_readers.specs.Statements.{stage, closed, compound_first, jump_first, open_try}
 use Rattle.laws_block.specs.Begun.{begun, level_of, still_of, ReadsBegun}
 use Rattle.laws_stmt.specs.Statements.{BlockReadAt, unbraced_first}
-use Rattle.laws_block.specs.Statements.{CompoundReadAt, SinglesReadAt}
+use Rattle.laws_stmt.specs.Besides.{SinglesReadAt}
+use Rattle.laws_block.specs.Statements.{CompoundReadAt}
 use Rattle.laws_block.proofs.Combined.{made_begun, plain_begun, by_first_begun, restated_begun}
 
 -- another reader that gives the same

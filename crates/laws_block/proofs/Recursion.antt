@@ -1,4 +1,4 @@
--- The recursion over depths: blocks, compound statements and statements of each depth, from those of the smaller ones.
+-- The recursion over depths: expressions, parameters, blocks and statements of each depth, from blocks and statements of the smaller ones.
 use Rattle.std.proofs.Common.{◌≡◌, ℕ, zero, suc, ◌≤◌, false, ◌⊎◌, inl, inr, subst, ltb, arith}
 use Rattle.std.proofs.lemmas.Bool.{ltb-true, ltb-false}
 use Rattle.dart_token.specs.declared.sign.Sign.TheVariants as s
@@ -11,8 +11,11 @@ use Rattle.token_codes.specs.Codes.{these}
 use Rattle.syntax_readers.specs.Statements as i
 use Rattle.syntax_readers.specs.Statements.{compound_first}
 use Rattle.laws_block.specs.Begun.{level_of, still_of}
-use Rattle.laws_stmt.specs.Statements.{BlockReadAt}
-use Rattle.laws_block.specs.Statements.{StatementsReadAt, CompoundReadAt, BesidesReadAt, Asked, AllReadAt}
+use Rattle.laws_stmt.specs.Statements.{BlockReadAt, ReadOverBlocksAt}
+use Rattle.laws_stmt.specs.Besides.{BesidesReadAt}
+use Rattle.laws_block.specs.Statements.{StatementsReadAt, CompoundReadAt, NoChoice, AllReadAt}
+use Rattle.laws_stmt.proofs.Besides.{besides_at}
+use Rattle.laws_stmt.proofs.Recursion.{read_over_blocks}
 use Rattle.laws_block.proofs.Combined.{plain_begun}
 use Rattle.laws_block.proofs.Depths.{blocks_at, holders_at, tries_at, compounds_at}
 use Rattle.laws_block.proofs.For.{for_begun}
@@ -34,13 +37,19 @@ last_or_below m n le = elim (cases_bool (ltb m (suc n))) [
   | inr h ↦ inr (omega (arith, le, ltb-false m (suc n) h))
 ]
 
-module _ (asked : Asked) where
+module _ (asked : NoChoice) where
   from : (n : ℕ) → ((m : ℕ) → m ≤ n → BlockReadAt m) → CompoundReadAt n → AllReadAt n
-  from n blocks compound = record {
-    block = blocks n (omega arith);
-    compound = compound;
-    statements = statements_at n (asked.besides n blocks).singles (blocks n (omega arith)) compound (asked.apart n);
-  }
+  from n blocks compound =
+      let R : ReadOverBlocksAt n = read_over_blocks n (λ m lt. blocks m (omega (arith, lt))) in
+      let block : BlockReadAt n = blocks n (omega arith) in
+      record {
+        expressions = R.expressions;
+        parameters = R.parameters;
+        others = R.others block;
+        declared = R.declared block;
+        compound = compound;
+        statements = statements_at n (besides_at n blocks).singles block compound (asked.apart n);
+      }
 
   record UpTo (n : ℕ) : Type 0 where
     blocks : (m : ℕ) → m ≤ n → BlockReadAt m
@@ -54,9 +63,10 @@ module _ (asked : Asked) where
 
   next_compound : (n : ℕ) → UpTo n → CompoundReadAt (suc n)
   next_compound n below =
-      let b : BesidesReadAt n = asked.besides n below.blocks in
+      let b : BesidesReadAt n = besides_at n below.blocks in
       let st : StatementsReadAt n = below.here.statements in
-      compounds_at n (for_begun n st b.for_parts (asked.heads n)) (holders_at n st b.condition) (switches_at n b below.here.block below.here.compound (asked.apart n)) (tries_at n below.here.block b.catch_clause)
+      compounds_at n (for_begun n st b.for_parts (asked.heads n)) (holders_at n st b.condition)
+          (switches_at n b below.here.others.block below.here.compound (asked.apart n)) (tries_at n below.here.others.block b.catch_clause)
 
   none_below : (m : ℕ) → m ≤ 0 → BlockReadAt m
   none_below m le = let e : 0 ≡ m = omega (arith, le) in subst BlockReadAt e no_blocks

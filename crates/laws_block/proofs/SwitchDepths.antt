@@ -1,7 +1,7 @@
 -- The law of `switch` at each depth (ECMA-408, 17.9 Switch).
 use Rattle.std.proofs.Common.{◌≡◌, ℕ, suc, false, None, sym, ap}
 use Rattle.dart_token.specs.declared.word.Word.TheVariants as w
-use Rattle.dart_tree.specs.Tree.{Expr, Stmt}
+use Rattle.dart_tree.specs.Tree.{Stmt}
 use Rattle.dart_syntax.specs.Agreement.{WithinAgrees}
 use Rattle.dart_syntax.specs.Statements as p
 use Rattle.dart_syntax.specs.Statements.{within}
@@ -14,7 +14,8 @@ use Rattle.syntax_readers.specs.Statements as i
 use Rattle.syntax_readers.specs.Statements.{stage, closed, open_try}
 use Rattle.laws_stmt.specs.Statements.{BlockReadAt}
 use Rattle.laws_block.specs.Begun.{level_of, still_of}
-use Rattle.laws_block.specs.Statements.{StatementsReadAt, CompoundReadAt, BesidesReadAt, ApartAt, SwitchReadAt}
+use Rattle.laws_stmt.specs.Besides.{BesidesReadAt}
+use Rattle.laws_block.specs.Statements.{StatementsReadAt, CompoundReadAt, ApartAt, SwitchReadAt}
 use Rattle.laws_block.proofs.Combined.{plain_begun}
 use Rattle.laws_block.proofs.Lists.{stmts_laws}
 use Rattle.laws_block.proofs.Switches.{switch_laws}
@@ -29,7 +30,8 @@ module _ (n : ℕ) (R : BesidesReadAt n) (B : BlockReadAt n) (C : CompoundReadAt
 
   whole : Reads (i.switch_over n (closed (stage n).nodes.exprs) (stage n).stmt) (p.switch_over (within n)) (this_word w.Switch) nowhere false
   unfolding i.switch_over
-  whole = switch_laws n S.reads S.partless (stmts_laws n S.reads S.partless) (closed (stage n).nodes.exprs) (within n).nodes.expr_nodes.expr R.case_value (parted_at n R.singles B C P) A A.stmt A.nodes.expr_nodes.expr R.condition
+  whole = switch_laws n S.reads S.partless (stmts_laws n S.reads S.partless) (closed (stage n).nodes.exprs) (within n).nodes.expr_nodes.expr R.case_value
+      (parted_at n R.singles B C P) A A.stmt A.nodes.expr_nodes.expr R.condition
 
   -- a `switch` ends in no `try`
   never : (x : Stmt) → (p.switch_over (within n)).Fits x → level_of (suc n) x ≡ None

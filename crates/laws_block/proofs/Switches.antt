@@ -1,5 +1,5 @@
 -- The law of `switch` (ECMA-408, 17.9 Switch), over any reader of statements.
-use Rattle.std.proofs.Common.{◌≡◌, ℕ, zero, suc, ◌<◌, ◌≤◌, Bool, true, false, if◌then◌else◌, List, [], ◌∷◌, ◌++◌, length, None, Some, Ok, Err, refl, ap, ◌∙◌, append_assoc, arith}
+use Rattle.std.proofs.Common.{◌≡◌, ℕ, zero, suc, ◌<◌, ◌≤◌, Bool, true, false, if◌then◌else◌, List, [], ◌∷◌, length, None, Some, Ok, Err, refl, ap, ◌∙◌, append_assoc, arith}
 use Rattle.std.proofs.lemmas.List.{length-append}
 use Rattle.std.specs.List.{flat_map}
 use Rattle.dart_base.specs.declared.place.Place.{Place}
@@ -17,7 +17,7 @@ use Rattle.grammar_laws.proofs.Codes.{apart, apart_none, within_none}
 use Rattle.grammar_laws.proofs.Restated.{made_laws, reread}
 use Rattle.grammar_laws.proofs.Combined.{both_laws, both_any_laws}
 use Rattle.grammar_laws.proofs.Joints.{begins}
-use Rattle.dart_syntax.specs.Phrases.{Phrase, ◌~◌, many, made, opt}
+use Rattle.dart_syntax.specs.Phrases.{Phrase, ◌~◌, many, made}
 use Rattle.dart_syntax.specs.Agreement.{Agrees, WithinAgrees}
 use Rattle.dart_syntax.specs.Statements as g
 use Rattle.dart_syntax.specs.Statements.{Within, a_switch}
@@ -36,9 +36,8 @@ use Rattle.syntax_readers.specs.Statements as i
 use Rattle.syntax_readers.specs.Statements.{Part, is_case, to_parts, stmt_first, stmt_comes, stmt_in_part_comes, stmts_where}
 use Rattle.laws_block.specs.Begun.{StmtReads, Partless}
 use Rattle.laws_block.proofs.Lists.{behind_list}
-use Rattle.laws_block.proofs.PartTests.{part_codes_first, case_codes}
+use Rattle.laws_block.proofs.PartTests.{part_codes_first}
 use Rattle.laws_block.proofs.PartPhrases.{Rest, More, flat, to_default, to_case}
-use Rattle.laws_block.proofs.Ends.{Ends_run}
 use Rattle.laws_block.proofs.Runs.{sound_turns}
 use Rattle.laws_block.proofs.SwitchParts.{to_switch, Whole, all_parts_laws}
 use Rattle.laws_block.proofs.Switching.{Parted, behind_parts, rest_at, rest_reader, more_reader, rest_laws, more_laws, labels_laws}

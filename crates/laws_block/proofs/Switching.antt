@@ -40,7 +40,8 @@ behind_parts = stmt_first ++ (part_codes_first ++ still)
 
 -- a test tells statements from any rests of parts, behind the labels of either
 abbrev pub Parted : Phrase Stmt → Type 1
-Parted p = (r : Phrase Rest) → ((t : Token) (ts : List Token) → r.front (t ∷ ts) → has case_codes (class_of t) ≡ true) → ((y : Rest) (rest : List Token) → r.Fits y → starts class_of case_codes (r.spelling y ++ rest) ≡ true) →
+Parted p = (r : Phrase Rest) → ((t : Token) (ts : List Token) → r.front (t ∷ ts) → has case_codes (class_of t) ≡ true) →
+    ((y : Rest) (rest : List Token) → r.Fits y → starts class_of case_codes (r.spelling y ++ rest) ≡ true) →
     Ends_run p stmt_in_part_comes (opt (many l.label ~ r)) part_codes_first behind_parts
 
 label_list : List Label → List Token

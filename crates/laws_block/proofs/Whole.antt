@@ -24,7 +24,8 @@ use Rattle.syntax_readers.specs.Statements.{stage, open_try, calls, compound_fir
 use Rattle.laws_type.proofs.Types.{types_read_at}
 use Rattle.laws_block.specs.Begun.{on_phrase, body_codes, room, level_of, still_of, ReadsBegun, StmtReads, Partless}
 use Rattle.laws_stmt.specs.Statements.{BlockReadAt, unbraced_first}
-use Rattle.laws_block.specs.Statements.{StatementsReadAt, CompoundReadAt, SinglesReadAt, ApartAt, behind_on_name}
+use Rattle.laws_stmt.specs.Besides.{SinglesReadAt}
+use Rattle.laws_block.specs.Statements.{StatementsReadAt, CompoundReadAt, ApartAt, behind_on_name}
 use Rattle.laws_block.proofs.Bare.{BareApart, bare_apart}
 use Rattle.laws_block.proofs.On.{on_reads}
 use Rattle.laws_block.proofs.Levels.{still_within}
@@ -142,11 +143,14 @@ module _ (n : ℕ) (I : SinglesReadAt n) (B : BlockReadAt n) (C : CompoundReadAt
 
   -- ---- what tells statements from further parts of a `switch`
 
-  with_its_labels : (x : Stmt) → (p.stmt_of nodes).Fits x → (xs : List Label) × (y : Stmt) × AllByRecursion l.label.Fits xs × Bare.Fits y × ((p.stmt_of nodes).spelling x ≡ flat_map l.label.spelling xs ++ Bare.spelling y)
+  with_its_labels : (x : Stmt) → (p.stmt_of nodes).Fits x →
+      (xs : List Label) × (y : Stmt) × AllByRecursion l.label.Fits xs × Bare.Fits y
+      × ((p.stmt_of nodes).spelling x ≡ flat_map l.label.spelling xs ++ Bare.spelling y)
   with_its_labels x ((xs, y), fits, e) = (xs, y, fits.0, fits.1, ap stmt_tokens (sym e) ∙ said_labels xs y)
 
   parted : Parted (p.stmt_of nodes)
-  parted r firsts begun = ends_run U (inside refl) (apart refl) A.no_label name_alone (p.stmt_of nodes) with_its_labels (λ ts f. f) (λ ts f. f) (λ t ts f. labelled.laws.firsts t ts f) (λ x rest fits. one_begins labelled x rest fits) r firsts begun behind_parts
+  parted r firsts begun = ends_run U (inside refl) (apart refl) A.no_label name_alone (p.stmt_of nodes) with_its_labels (λ ts f. f) (λ ts f. f)
+      (λ t ts f. labelled.laws.firsts t ts f) (λ x rest fits. one_begins labelled x rest fits) r firsts begun behind_parts
 
 -- what stands at a depth is made of its nodes
 reads_at : (n : ℕ) → StmtReads n (i.stmt_of (stage n).nodes) (p.stmt_of (within n).nodes) stmt_first → StmtReads n (stage n).stmt (within n).stmt stmt_first

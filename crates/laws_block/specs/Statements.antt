@@ -1,5 +1,5 @@
 -- What is proved of the readers of statements that hold statements: at each depth, where those of the statements inside find theirs.
-use Rattle.std.specs.Prelude.{◌≡◌, ℕ, suc, ◌≤◌, true, false, List, ◌∷◌, ◌++◌, Err}
+use Rattle.std.specs.Prelude.{◌≡◌, ℕ, suc, true, List, ◌∷◌, ◌++◌}
 use Rattle.dart_token.specs.declared.token.Token.{Token}
 use Rattle.dart_token.specs.declared.sign.Sign.TheVariants as s
 use Rattle.dart_token.specs.declared.word.Word.TheVariants as w
@@ -9,23 +9,22 @@ use Rattle.dart_tree.specs.Tree.{Stmt, Value, Variables}
 use Rattle.dart_tree.specs.Types.{VariableKind}
 use Rattle.dart_tree.specs.declared.identifier.Identifier.{Identifier}
 use Rattle.dart_base.specs.declared.place.Place.{Place}
-use Rattle.grammar_laws.specs.Codes.{has, Apart, nowhere}
-use Rattle.grammar_laws.specs.Readers.{mapped, both, either, starts, nothing}
-use Rattle.dart_syntax.specs.Phrases.{Phrase, ◌~◌, ◌<|>◌, made, perhaps}
+use Rattle.grammar_laws.specs.Codes.{has}
+use Rattle.grammar_laws.specs.Readers.{mapped}
+use Rattle.dart_syntax.specs.Phrases.{Phrase, ◌~◌, ◌<|>◌, made}
 use Rattle.dart_syntax.specs.Leaves as l
-use Rattle.dart_syntax.specs.Types.{without_kind, kind_over}
 use Rattle.dart_syntax.specs.Expressions as g
 use Rattle.dart_syntax.specs.Statements as p
 use Rattle.dart_syntax.specs.Statements.{within}
-use Rattle.token_codes.specs.Codes.{class_of, names, sign_code, word_code, these, this_word}
-use Rattle.token_codes.specs.Leaves.{sign, identifier}
-use Rattle.token_codes.specs.Reads.{Reads}
+use Rattle.token_codes.specs.Codes.{class_of, names, sign_code, these, this_word}
+use Rattle.token_codes.specs.Leaves.{sign}
 use Rattle.syntax_readers.specs.Types.{type_first}
-use Rattle.syntax_readers.specs.Primaries.{expr_first, maybe_expr}
-use Rattle.syntax_readers.specs.Parameters.{maybe_kind}
+use Rattle.syntax_readers.specs.Primaries.{maybe_expr}
 use Rattle.syntax_readers.specs.Statements as i
-use Rattle.syntax_readers.specs.Statements.{stage, closed, stmt_first, compound_first, jump_first, declaration_first}
-use Rattle.laws_stmt.specs.Statements.{BlockReadAt, unbraced_first, variable_first}
+use Rattle.syntax_readers.specs.Statements.{stage, closed, stmt_first, compound_first}
+use Rattle.laws_expr.specs.Statements.{OthersReadAt, ExpressionsReadAt}
+use Rattle.laws_stmt.specs.Statements.{BlockReadAt, ParametersReadAt, DeclaredReadAt}
+use Rattle.laws_stmt.specs.Besides.{SinglesReadAt, ConditionReadAt, CatchReadAt, kind_name_of, ForPartsReadAt, BesidesReadAt}
 use Rattle.laws_block.specs.Begun.{body_codes, level_of, still_of, ReadsBegun, StmtReads, Partless}
 
 -- ---- what is asked of a depth
@@ -34,18 +33,6 @@ use Rattle.laws_block.specs.Begun.{body_codes, level_of, still_of, ReadsBegun, S
 pub record StatementsReadAt (n : ℕ) : Type 0 where
   pub reads : StmtReads n (stage n).stmt (within n).stmt stmt_first
   pub partless : Partless (within n).stmt
-
--- an expression in parentheses
-abbrev pub ConditionReadAt : ℕ → Type 0
-ConditionReadAt n = Reads (i.condition_over (closed (stage n).nodes.exprs)) (p.condition_over (within n)) (these s.LeftParenthesis) nowhere false
-
--- the expression behind `case`, and its colon (17.9 Switch)
-abbrev pub CaseReadAt : ℕ → Type 0
-CaseReadAt n = Reads (both (closed (stage n).nodes.exprs) (sign s.Colon)) ((within n).nodes.expr_nodes.expr ~ l.sign s.Colon) expr_first nowhere false
-
--- `catch` with its names (17.11 Try)
-abbrev pub CatchReadAt : ℕ → Type 0
-CatchReadAt n = Reads (stage n).nodes.catch_clause (within n).nodes.catch_clause (this_word w.Catch) nowhere false
 
 -- ---- what holds then, with one node more
 
@@ -85,16 +72,6 @@ CompoundReadAt n = ReadsBegun (stage n).nodes.compound (within n).nodes.compound
 abbrev pub CompoundsRead : Type 0
 CompoundsRead = (n : ℕ) → ForReadAt n → HoldersReadAt n → SwitchReadAt n → TryReadAt n → CompoundReadAt (suc n)
 
--- ---- statements that hold no statements
-
--- declarations (17.3 Local Variable Declaration, 17.4 Local Function Declaration), jumps (17.10, 17.12, 17.14, 17.15), and expression
--- statements (17.2), whose reader is asked only where one of their first tokens comes, and refuses what begins with none and no brace
-pub record SinglesReadAt (n : ℕ) : Type 0 where
-  pub declaration : Reads (i.declaration (stage n).nodes) (p.declaration_of (within n).nodes) declaration_first nowhere false
-  pub jump : Reads (i.jump (closed (stage n).nodes.exprs)) (p.jump_of (within n).nodes) jump_first nowhere false
-  pub expression : Reads (either (starts class_of unbraced_first) (i.expression_stmt (closed (stage n).nodes.exprs)) nothing) (p.expression_of (within n).nodes) unbraced_first nowhere false
-  pub refused : (ts : List Token) → starts class_of (these s.LeftBrace) ts ≡ false → starts class_of unbraced_first ts ≡ false → i.expression_stmt (closed (stage n).nodes.exprs) ts ≡ Err ts
-
 -- ---- what is asked of the grammar
 
 -- behind `on` and a type's name the type goes on, or the part
@@ -118,32 +95,9 @@ StatementsRead = (n : ℕ) → SinglesReadAt n → BlockReadAt n → CompoundRea
 
 -- ---- `for` (17.6 For)
 
--- a variable's kind or none, and its name; and an expression or none, and its semicolon
-abbrev pub kind_name_of : ℕ → Phrase (VariableKind × Identifier)
-kind_name_of n = (without_kind <|> kind_over (within n).nodes.expr_nodes.type) ~ l.identifier
-
+-- an expression or none, and its semicolon
 abbrev pub start_of : ℕ → Phrase (Value × Place)
 start_of n = g.maybe_expr (within n).nodes.expr_nodes.expr ~ l.sign s.Semicolon
-
--- what begins a kind or a name
-abbrev pub kind_first : List ℕ
-kind_first = word_code w.Var ∷ word_code w.Final ∷ type_first ++ names
-
--- what may go on behind an expression or none, and behind a list of expressions or none, stays apart from the sign behind it
-pub record ForPartsReadAt (n : ℕ) : Type 0 where
-  pub behind_value : List ℕ
-  pub value : Reads (maybe_expr (closed (stage n).nodes.exprs)) (g.maybe_expr (within n).nodes.expr_nodes.expr) expr_first (λ x. behind_value) true
-  pub value_off : Apart behind_value (these s.Semicolon)
-  pub behind_updates : List ℕ
-  pub updates : Reads (i.updates_over (closed (stage n).nodes.exprs)) (perhaps t.no_items (g.plain_list (within n).nodes.expr_nodes.expr)) expr_first (λ x. behind_updates) true
-  pub updates_off : Apart behind_updates (these s.RightParenthesis)
-  pub variables : Reads (stage n).nodes.variables (within n).nodes.variables variable_first nowhere false
-  -- in expression )
-  pub iterated : Reads (both (closed (stage n).nodes.exprs) (sign s.RightParenthesis)) ((within n).nodes.expr_nodes.expr ~ l.sign s.RightParenthesis) expr_first nowhere false
-  -- a variable's kind or none, and its name
-  pub behind_name : List ℕ
-  pub kind_name : Reads (both (maybe_kind (stage n).nodes.exprs.type) identifier) (kind_name_of n) kind_first (λ x. behind_name) false
-  pub kind_off : Apart behind_name (this_word w.In)
 
 -- the three kinds of heads: no list of tokens begins one and is more than another
 pub record HeadsApartAt (n : ℕ) : Type 0 where
@@ -157,30 +111,28 @@ pub record HeadsApartAt (n : ℕ) : Type 0 where
 abbrev pub ForsRead : Type 0
 ForsRead = (n : ℕ) → StatementsReadAt n → ForPartsReadAt n → HeadsApartAt n → ForReadAt n
 
--- ---- at every depth
+-- ---- `switch` (17.9 Switch)
 
--- all that holds no statements, or holds them in its blocks alone
-pub record BesidesReadAt (n : ℕ) : Type 0 where
-  pub singles : SinglesReadAt n
-  pub for_parts : ForPartsReadAt n
-  pub condition : ConditionReadAt n
-  pub case_value : CaseReadAt n
-  pub catch_clause : CatchReadAt n
-
--- of `switch`, with what is asked of statements inside
+-- with what is asked of the statements inside
 abbrev pub SwitchesRead : Type 0
 SwitchesRead = (n : ℕ) → BesidesReadAt n → BlockReadAt n → CompoundReadAt n → ApartAt n → SwitchReadAt n
 
--- of the readers of all that: that they find their phrases where those of blocks do up to that depth; and what is asked of the grammar
-pub record Asked : Type 0 where
-  pub besides : (n : ℕ) → ((m : ℕ) → m ≤ n → BlockReadAt m) → BesidesReadAt n
+-- ---- at every depth
+
+-- what is asked of the grammar: that no list of tokens leaves a choice
+pub record NoChoice : Type 0 where
   pub apart : (n : ℕ) → ApartAt n
   pub heads : (n : ℕ) → HeadsApartAt n
 
+-- expressions (16), a parameter, and parameters in their parentheses with one node more (9.2), such parameters and blocks (17.1), variables and
+-- functions in functions with one node more, bodies (8, 17.4, 9), and statements (17)
 pub record AllReadAt (n : ℕ) : Type 0 where
-  pub block : BlockReadAt n
+  pub expressions : ExpressionsReadAt n
+  pub parameters : ParametersReadAt n
+  pub others : OthersReadAt n
+  pub declared : DeclaredReadAt n
   pub compound : CompoundReadAt n
   pub statements : StatementsReadAt n
 
 abbrev pub AllRead : Type 0
-AllRead = Asked → (n : ℕ) → AllReadAt n
+AllRead = NoChoice → (n : ℕ) → AllReadAt n
