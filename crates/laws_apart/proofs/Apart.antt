@@ -26,7 +26,8 @@ use Rattle.token_codes.specs.Leaves.{name_of}
 use Rattle.token_codes.proofs.Only.{only_sign, only_word}
 use Rattle.token_codes.proofs.Leaves.{name_said}
 use Rattle.syntax_readers.specs.Types.{type_first}
-use Rattle.laws_apart.specs.Statements.{body_codes, behind_on_name, kind_name_of, start_of, ApartAt, HeadsApartAt}
+use Rattle.laws_stmt.specs.Besides.{kind_name_of}
+use Rattle.laws_apart.specs.Statements.{body_codes, behind_on_name, start_of, ApartAt, HeadsApartAt}
 use Rattle.laws_apart.proofs.Telling.{Sort, name, dynamic, dot, less, colon, body, other, State, begun, named, second, called, typed, known, free, neither}
 use Rattle.laws_apart.proofs.Telling.{sign_sort, word_sort, kind_sort, step, calls, judge, judge_by, among, under, included, stay, stays}
 use Rattle.laws_apart.proofs.Leading.{Through, through_both, Leads, one_through, the_sign, an_identifier, seq_leads, made_leads, perhaps_leads}

@@ -11,12 +11,12 @@ use Rattle.dart_base.specs.declared.place.Place.{Place}
 use Rattle.grammar_laws.specs.Codes.{has}
 use Rattle.dart_syntax.specs.Phrases.{Phrase, ◌~◌, ◌<|>◌}
 use Rattle.dart_syntax.specs.Leaves as l
-use Rattle.dart_syntax.specs.Types.{without_kind, kind_over}
 use Rattle.dart_syntax.specs.Expressions as g
 use Rattle.dart_syntax.specs.Statements as p
 use Rattle.dart_syntax.specs.Statements.{within}
 use Rattle.token_codes.specs.Codes.{class_of, names, sign_code, word_code, these, this_word}
 use Rattle.syntax_readers.specs.Types.{type_first}
+use Rattle.laws_stmt.specs.Besides.{kind_name_of}
 
 -- what stands behind `on` and a type in a part of a `try`
 abbrev pub body_codes : List ℕ
@@ -46,10 +46,7 @@ StatementsApart = (n : ℕ) → ApartAt n
 
 -- ---- `for` (17.6 For)
 
--- a variable's kind or none, and its name; and an expression or none, and its semicolon
-abbrev pub kind_name_of : ℕ → Phrase (VariableKind × Identifier)
-kind_name_of n = (without_kind <|> kind_over (within n).nodes.expr_nodes.type) ~ l.identifier
-
+-- an expression or none, and its semicolon
 abbrev pub start_of : ℕ → Phrase (Value × Place)
 start_of n = g.maybe_expr (within n).nodes.expr_nodes.expr ~ l.sign s.Semicolon
 

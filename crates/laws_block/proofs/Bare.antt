@@ -17,7 +17,8 @@ use Rattle.syntax_readers.specs.Types.{type_first}
 use Rattle.syntax_readers.specs.Statements.{compound_first, jump_first, declaration_first}
 use Rattle.laws_stmt.specs.Statements.{BlockReadAt}
 use Rattle.laws_stmt.specs.Besides.{SinglesReadAt}
-use Rattle.laws_block.specs.Statements.{CompoundReadAt, ApartAt, behind_on_name}
+use Rattle.laws_apart.specs.Statements.{ApartAt, behind_on_name}
+use Rattle.laws_block.specs.Statements.{CompoundReadAt}
 use Rattle.laws_block.proofs.Combined.{stops_apart}
 use Rattle.laws_block.proofs.Single.{one_begins}
 use Rattle.laws_block.proofs.Endings.{declared_one, declared_two, expression_one, expression_two}

@@ -17,7 +17,8 @@ use Rattle.token_codes.specs.Reads.{Reads}
 use Rattle.syntax_readers.specs.Combinators.{halting}
 use Rattle.syntax_readers.specs.Types.{type_reader}
 use Rattle.syntax_readers.specs.Statements.{on_type, read_on}
-use Rattle.laws_block.specs.Begun.{rest_of, on_phrase, body_codes, begun, Begins, part_begins, on_codes}
+use Rattle.laws_apart.specs.Statements.{body_codes}
+use Rattle.laws_block.specs.Begun.{rest_of, on_phrase, begun, Begins, part_begins, on_codes}
 use Rattle.laws_block.proofs.On.{on_reads}
 
 -- ---- a list that begins with none of its first tokens is refused where it begins

@@ -17,7 +17,8 @@ use Rattle.dart_syntax.specs.Phrases.{Phrase}
 use Rattle.token_codes.specs.Codes.{class_of, on_code, word_code, this_word}
 use Rattle.token_codes.specs.Reads.{Reads}
 use Rattle.syntax_readers.specs.Statements.{stmt_first}
-use Rattle.laws_block.specs.Begun.{on_phrase, body_codes, Begins, part_begins, part_codes, level_of, else_of, StmtReads, Partless}
+use Rattle.laws_apart.specs.Statements.{body_codes}
+use Rattle.laws_block.specs.Begun.{on_phrase, Begins, part_begins, part_codes, level_of, else_of, StmtReads, Partless}
 use Rattle.laws_block.proofs.On.{on_reads}
 use Rattle.laws_block.proofs.Begun.{Part, part_is, within_part}
 use Rattle.laws_block.proofs.Combined.{stops_apart}

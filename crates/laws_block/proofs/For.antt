@@ -34,9 +34,10 @@ use Rattle.syntax_readers.specs.Primaries.{expr_first, maybe_expr}
 use Rattle.syntax_readers.specs.Parameters.{maybe_kind}
 use Rattle.syntax_readers.specs.Statements as i
 use Rattle.syntax_readers.specs.Statements.{stage, closed, stmt_first, open_try, open_try_in}
+use Rattle.laws_apart.specs.Statements.{HeadsApartAt, start_of}
 use Rattle.laws_block.specs.Begun.{level_of, still_of, ReadsBegun}
 use Rattle.laws_stmt.specs.Besides.{ForPartsReadAt, kind_name_of, kind_first}
-use Rattle.laws_block.specs.Statements.{StatementsReadAt, HeadsApartAt, ForReadAt, start_of}
+use Rattle.laws_block.specs.Statements.{StatementsReadAt, ForReadAt}
 use Rattle.laws_block.proofs.Combined.{then_begun, then_any_begun, made_begun, restated_begun}
 use Rattle.laws_block.proofs.Levels.{deeper_room, still_within, loop_level, loop_still, loop_begun}
 use Rattle.laws_block.proofs.Grouped.{regrouped_begun, into, behind_first}

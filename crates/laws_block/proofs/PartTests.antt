@@ -28,7 +28,8 @@ use Rattle.token_codes.proofs.Leaves.{name_said, label_reads}
 use Rattle.syntax_readers.specs.Types.{type_first}
 use Rattle.syntax_readers.specs.Statements.{stmt_first, stmt_comes, part_comes, stmt_in_part_comes, label_comes}
 use Rattle.laws_type.proofs.Types.{types_read_at}
-use Rattle.laws_block.specs.Begun.{on_phrase, body_codes, Begins, ReadsBegun}
+use Rattle.laws_apart.specs.Statements.{body_codes}
+use Rattle.laws_block.specs.Begun.{on_phrase, Begins, ReadsBegun}
 use Rattle.laws_block.proofs.On.{on_reads}
 use Rattle.laws_block.proofs.Begun.{begins_on}
 use Rattle.laws_block.proofs.Beginnings.{on_second}

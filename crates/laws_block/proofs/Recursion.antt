@@ -13,9 +13,10 @@ use Rattle.syntax_readers.specs.Statements.{compound_first}
 use Rattle.laws_block.specs.Begun.{level_of, still_of}
 use Rattle.laws_stmt.specs.Statements.{BlockReadAt, ReadOverBlocksAt}
 use Rattle.laws_stmt.specs.Besides.{BesidesReadAt}
-use Rattle.laws_block.specs.Statements.{StatementsReadAt, CompoundReadAt, NoChoice, AllReadAt}
+use Rattle.laws_block.specs.Statements.{StatementsReadAt, CompoundReadAt, AllReadAt}
 use Rattle.laws_stmt.proofs.Besides.{besides_at}
 use Rattle.laws_stmt.proofs.Recursion.{read_over_blocks}
+use Rattle.laws_apart.proofs.Apart.{apart_at, heads_apart_at}
 use Rattle.laws_block.proofs.Combined.{plain_begun}
 use Rattle.laws_block.proofs.Depths.{blocks_at, holders_at, tries_at, compounds_at}
 use Rattle.laws_block.proofs.For.{for_begun}
@@ -37,45 +38,44 @@ last_or_below m n le = elim (cases_bool (ltb m (suc n))) [
   | inr h ↦ inr (omega (arith, le, ltb-false m (suc n) h))
 ]
 
-module _ (asked : NoChoice) where
-  from : (n : ℕ) → ((m : ℕ) → m ≤ n → BlockReadAt m) → CompoundReadAt n → AllReadAt n
-  from n blocks compound =
-      let R : ReadOverBlocksAt n = read_over_blocks n (λ m lt. blocks m (omega (arith, lt))) in
-      let block : BlockReadAt n = blocks n (omega arith) in
-      record {
-        expressions = R.expressions;
-        parameters = R.parameters;
-        others = R.others block;
-        declared = R.declared block;
-        compound = compound;
-        statements = statements_at n (besides_at n blocks).singles block compound (asked.apart n);
-      }
+from : (n : ℕ) → ((m : ℕ) → m ≤ n → BlockReadAt m) → CompoundReadAt n → AllReadAt n
+from n blocks compound =
+    let R : ReadOverBlocksAt n = read_over_blocks n (λ m lt. blocks m (omega (arith, lt))) in
+    let block : BlockReadAt n = blocks n (omega arith) in
+    record {
+      expressions = R.expressions;
+      parameters = R.parameters;
+      others = R.others block;
+      declared = R.declared block;
+      compound = compound;
+      statements = statements_at n (besides_at n blocks).singles block compound (apart_at n);
+    }
 
-  record UpTo (n : ℕ) : Type 0 where
-    blocks : (m : ℕ) → m ≤ n → BlockReadAt m
-    here : AllReadAt n
+record UpTo (n : ℕ) : Type 0 where
+  blocks : (m : ℕ) → m ≤ n → BlockReadAt m
+  here : AllReadAt n
 
-  next_blocks : (n : ℕ) → UpTo n → (m : ℕ) → m ≤ suc n → BlockReadAt m
-  next_blocks n below m le = elim (last_or_below m n le) [
-    | inl less ↦ below.blocks m less
-    | inr same ↦ subst BlockReadAt same (blocks_at n below.here.statements)
-  ]
+next_blocks : (n : ℕ) → UpTo n → (m : ℕ) → m ≤ suc n → BlockReadAt m
+next_blocks n below m le = elim (last_or_below m n le) [
+  | inl less ↦ below.blocks m less
+  | inr same ↦ subst BlockReadAt same (blocks_at n below.here.statements)
+]
 
-  next_compound : (n : ℕ) → UpTo n → CompoundReadAt (suc n)
-  next_compound n below =
-      let b : BesidesReadAt n = besides_at n below.blocks in
-      let st : StatementsReadAt n = below.here.statements in
-      compounds_at n (for_begun n st b.for_parts (asked.heads n)) (holders_at n st b.condition)
-          (switches_at n b below.here.others.block below.here.compound (asked.apart n)) (tries_at n below.here.others.block b.catch_clause)
+next_compound : (n : ℕ) → UpTo n → CompoundReadAt (suc n)
+next_compound n below =
+    let b : BesidesReadAt n = besides_at n below.blocks in
+    let st : StatementsReadAt n = below.here.statements in
+    compounds_at n (for_begun n st b.for_parts (heads_apart_at n)) (holders_at n st b.condition)
+        (switches_at n b below.here.others.block below.here.compound (apart_at n)) (tries_at n below.here.others.block b.catch_clause)
 
-  none_below : (m : ℕ) → m ≤ 0 → BlockReadAt m
-  none_below m le = let e : 0 ≡ m = omega (arith, le) in subst BlockReadAt e no_blocks
+none_below : (m : ℕ) → m ≤ 0 → BlockReadAt m
+none_below m le = let e : 0 ≡ m = omega (arith, le) in subst BlockReadAt e no_blocks
 
-  up_to : (n : ℕ) → UpTo n
-  up_to zero = record { blocks = none_below; here = from zero none_below no_compounds }
-  up_to (suc n) =
-      let below : UpTo n = up_to n in
-      record { blocks = next_blocks n below; here = from (suc n) (next_blocks n below) (next_compound n below) }
+up_to : (n : ℕ) → UpTo n
+up_to zero = record { blocks = none_below; here = from zero none_below no_compounds }
+up_to (suc n) =
+    let below : UpTo n = up_to n in
+    record { blocks = next_blocks n below; here = from (suc n) (next_blocks n below) (next_compound n below) }
 
-  pub all_at : (n : ℕ) → AllReadAt n
-  all_at n = (up_to n).here
+pub all_at : (n : ℕ) → AllReadAt n
+all_at n = (up_to n).here

@@ -22,7 +22,8 @@ use Rattle.token_codes.specs.Reads.{Reads}
 use Rattle.syntax_readers.specs.Combinators.{halting}
 use Rattle.syntax_readers.specs.Types.{type_reader}
 use Rattle.syntax_readers.specs.Statements.{open_try, on_type, behind_try, stmt_turns, stmt_first}
-use Rattle.laws_block.specs.Begun.{on_phrase, body_codes, Begins, part_begins, room, level_of, StmtReads, Partless}
+use Rattle.laws_apart.specs.Statements.{body_codes}
+use Rattle.laws_block.specs.Begun.{on_phrase, Begins, part_begins, room, level_of, StmtReads, Partless}
 use Rattle.laws_block.proofs.On.{on_reads}
 use Rattle.laws_block.proofs.Faults.{Closed, by_one, later_stuck}
 use Rattle.laws_block.proofs.Begun.{Gives, gives, halts, Part, part_is, begins_closed, within_part}

@@ -23,7 +23,8 @@ use Rattle.syntax_readers.specs.Combinators.{many_where}
 use Rattle.syntax_readers.specs.Types.{type_reader}
 use Rattle.syntax_readers.specs.Statements.{on_type, on_comes, try_part_comes}
 use Rattle.laws_type.proofs.Types.{under_type}
-use Rattle.laws_block.specs.Begun.{rest_of, on_phrase, body_codes, begun, Begins, part_begins, every_code, after_begun, ReadsBegun}
+use Rattle.laws_apart.specs.Statements.{body_codes}
+use Rattle.laws_block.specs.Begun.{rest_of, on_phrase, begun, Begins, part_begins, every_code, after_begun, ReadsBegun}
 use Rattle.laws_block.proofs.On.{on_reads}
 use Rattle.laws_block.proofs.Every.{every_token}
 use Rattle.laws_block.proofs.Faults.{by_one}

@@ -15,7 +15,8 @@ use Rattle.syntax_readers.specs.Statements.{stage, closed, open_try}
 use Rattle.laws_stmt.specs.Statements.{BlockReadAt}
 use Rattle.laws_block.specs.Begun.{level_of, still_of}
 use Rattle.laws_stmt.specs.Besides.{BesidesReadAt}
-use Rattle.laws_block.specs.Statements.{StatementsReadAt, CompoundReadAt, ApartAt, SwitchReadAt}
+use Rattle.laws_apart.specs.Statements.{ApartAt}
+use Rattle.laws_block.specs.Statements.{StatementsReadAt, CompoundReadAt, SwitchReadAt}
 use Rattle.laws_block.proofs.Combined.{plain_begun}
 use Rattle.laws_block.proofs.Lists.{stmts_laws}
 use Rattle.laws_block.proofs.Switches.{switch_laws}

@@ -22,10 +22,11 @@ use Rattle.syntax_readers.specs.Types.{type_first}
 use Rattle.syntax_readers.specs.Statements as i
 use Rattle.syntax_readers.specs.Statements.{stage, open_try, calls, compound_first, jump_first, declaration_first, stmt_first, label_comes}
 use Rattle.laws_type.proofs.Types.{types_read_at}
-use Rattle.laws_block.specs.Begun.{on_phrase, body_codes, room, level_of, still_of, ReadsBegun, StmtReads, Partless}
+use Rattle.laws_apart.specs.Statements.{body_codes, ApartAt, behind_on_name}
+use Rattle.laws_block.specs.Begun.{on_phrase, room, level_of, still_of, ReadsBegun, StmtReads, Partless}
 use Rattle.laws_stmt.specs.Statements.{BlockReadAt, unbraced_first}
 use Rattle.laws_stmt.specs.Besides.{SinglesReadAt}
-use Rattle.laws_block.specs.Statements.{StatementsReadAt, CompoundReadAt, ApartAt, behind_on_name}
+use Rattle.laws_block.specs.Statements.{StatementsReadAt, CompoundReadAt}
 use Rattle.laws_block.proofs.Bare.{BareApart, bare_apart}
 use Rattle.laws_block.proofs.On.{on_reads}
 use Rattle.laws_block.proofs.Levels.{still_within}

@@ -3,7 +3,6 @@
 use Rattle.std.specs.Prelude.{◌≡◌, ℕ, zero, suc, ◌+◌, ◌-◌, Bool, true, false, not, List, [], ◌∷◌, ◌++◌, length, take, Option, None, Some, Ok, Err}
 use Rattle.dart_base.specs.declared.place.Place.{Place}
 use Rattle.dart_token.specs.declared.token.Token.{Token}
-use Rattle.dart_token.specs.declared.sign.Sign.TheVariants as s
 use Rattle.dart_token.specs.declared.word.Word.TheVariants as w
 use Rattle.dart_tree.specs.LeafTokens.{on_text}
 use Rattle.dart_tree.specs.Types.{TypeNode}
@@ -16,9 +15,10 @@ use Rattle.dart_syntax.specs.Phrases.{Phrase, ◌~◌}
 use Rattle.dart_syntax.specs.Leaves.{named}
 use Rattle.dart_syntax.specs.Types.{type_within}
 use Rattle.dart_syntax.specs.Statements.{is_shut}
-use Rattle.token_codes.specs.Codes.{class_of, on_code, word_code, sign_code, this_word}
+use Rattle.token_codes.specs.Codes.{class_of, on_code, word_code, this_word}
 use Rattle.syntax_readers.specs.Types.{type_reader}
 use Rattle.syntax_readers.specs.Statements.{open_try, on_type, on_comes}
+use Rattle.laws_apart.specs.Statements.{body_codes}
 
 -- ---- the tokens that a reader takes, whether they are a tree or only begin one
 
@@ -33,10 +33,6 @@ taken_by p ts = Ok (take (length ts - length (rest_of (p ts))) ts, rest_of (p ts
 
 abbrev pub on_phrase : ℕ → Phrase (Place × TypeNode)
 on_phrase n = named on_text ~ type_within n
-
--- what stands behind that in a part
-abbrev pub body_codes : List ℕ
-body_codes = word_code w.Catch ∷ sign_code s.LeftBrace ∷ []
 
 -- the tokens behind a tree that begin a part, where one may begin; where none may, no tokens
 abbrev pub begun : Option ℕ → Reader Token (List Token)

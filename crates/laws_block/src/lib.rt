@@ -1,5 +1,5 @@
 // The readers of statements that hold statements find those of the grammar, where the readers of the statements inside do; and so do all
-// readers of expressions, parameters and statements where no list of tokens leaves a choice. The crate runs nothing.
+// readers of expressions, parameters and statements. The crate runs nothing.
 #![tactic(auto)]
 
 ghost use Rattle.laws_block.specs.Statements.{BlocksRead, HoldersRead, TriesRead, CompoundsRead, ForsRead, SwitchesRead, StatementsRead, AllRead};
@@ -49,8 +49,8 @@ pub fn statements_read()
 {}
 
 /// At every depth the readers of expressions, of parameters, of variables and functions in functions, of blocks, of compound statements
-/// and of statements find those of the grammar and nothing else, where no list of tokens leaves a choice between a declaration and an
-/// expression, nor between two heads of `for` (ECMA-408, 16 Expressions, 9.2 Formal Parameters, 8 Variables, 17 Statements).
+/// and of statements find those of the grammar and nothing else (ECMA-408, 16 Expressions, 9.2 Formal Parameters, 8 Variables, 17
+/// Statements).
 pub fn all_read()
     ensures { AllRead }
 {}
