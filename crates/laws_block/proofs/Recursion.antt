@@ -66,7 +66,7 @@ next_compound n below =
     let b : BesidesReadAt n = besides_at n below.blocks in
     let st : StatementsReadAt n = below.here.statements in
     compounds_at n (for_begun n st b.for_parts (heads_apart_at n)) (holders_at n st b.condition)
-        (switches_at n b below.here.others.block below.here.compound (apart_at n)) (tries_at n below.here.others.block b.catch_clause)
+    (switches_at n b below.here.others.block below.here.compound (apart_at n)) (tries_at n below.here.others.block b.catch_clause)
 
 none_below : (m : ℕ) → m ≤ 0 → BlockReadAt m
 none_below m le = let e : 0 ≡ m = omega (arith, le) in subst BlockReadAt e no_blocks
