@@ -13,7 +13,6 @@ pub mod Standing
 pub mod Sorted
 pub mod Beginning
 pub mod Units
-pub mod ConstructorFault
 pub mod DeclKinds
 pub mod Operators
 pub mod Members

@@ -6,21 +6,25 @@ use Rattle.token_codes.specs.Codes.{class_of}
 use Rattle.syntax_readers.specs.Combinators.{opening, closing}
 use Rattle.syntax_readers.specs.Declarations.{behind_init, is_body, before_body}
 use Rattle.parse_type.proofs.Looking.{starts_either}
-use Rattle.parse_constructor.specs.Views.{open_after, selecting_first, arithmetic_first, relational_first, testing_first}
+use Rattle.parse_constructor.specs.Views.{open_after, selecting_first, arithmetic_first, relational_first, testing_first, enclosing_first}
+
+abbrev from_testing : List ℕ
+from_testing = testing_first ++ enclosing_first
 
 abbrev from_relational : List ℕ
-from_relational = relational_first ++ testing_first
+from_relational = relational_first ++ from_testing
 
 abbrev from_arithmetic : List ℕ
 from_arithmetic = arithmetic_first ++ from_relational
 
 pub behind_init_is : (ts : List Token) → starts class_of behind_init ts
     ≡ (starts class_of selecting_first ts || (starts class_of arithmetic_first ts ||
-    (starts class_of relational_first ts || starts class_of testing_first ts)))
+    (starts class_of relational_first ts || (starts class_of testing_first ts || starts class_of enclosing_first ts))))
 behind_init_is ts =
     starts_either selecting_first from_arithmetic ts
     ∙ ap (λ (b : Bool). starts class_of selecting_first ts || b) (starts_either arithmetic_first from_relational ts
-    ∙ ap (λ (b : Bool). starts class_of arithmetic_first ts || b) (starts_either relational_first testing_first ts))
+    ∙ ap (λ (b : Bool). starts class_of arithmetic_first ts || b) (starts_either relational_first from_testing ts
+    ∙ ap (λ (b : Bool). starts class_of relational_first ts || b) (starts_either testing_first enclosing_first ts)))
 
 -- ---- at a token
 

@@ -24,7 +24,7 @@ use Rattle.parse_nest.specs.Stages.{exprs_at, levels_at, block_at}
 use Rattle.syntax_readers.specs.Combinators.{◌~◌, made₂, made₃, made₄, opening, closing, up_to}
 use Rattle.syntax_readers.specs.Declarations as spec
 use Rattle.syntax_readers.specs.Expressions.{cascaded_over}
-use Rattle.token_codes.specs.Codes.{class_of, sign_code, word_code, these, this_word}
+use Rattle.token_codes.specs.Codes.{class_of, middle_code, sign_code, tail_code, word_code, these, this_word}
 use Rattle.token_codes.specs.Leaves.{sign, word, identifier, dot_name, this_dot}
 
 -- ---- what comes
@@ -48,6 +48,10 @@ relational_first = sign_code s.Ampersand ∷ sign_code s.Caret ∷ sign_code s.B
 
 abbrev pub testing_first : List ℕ
 testing_first = sign_code s.EqualEqual ∷ sign_code s.NotEqual ∷ sign_code s.AndAnd ∷ sign_code s.OrOr ∷ word_code w.Is ∷ word_code w.As ∷ []
+
+-- what goes on with the conditional or the string that holds a block
+abbrev pub enclosing_first : List ℕ
+enclosing_first = sign_code s.Colon ∷ middle_code ∷ tail_code ∷ []
 
 -- what begins a factory
 abbrev pub factory_first : List ℕ

@@ -1,13 +1,14 @@
 // Where the block stands that is a constructor's own body (ECMA-408, 10.6.1 Generative Constructors).
 ghost use Rattle.std.specs.Prelude.{◌≡◌, ◌+◌, ◌<◌};
 ghost use Rattle.grammar_laws.specs.Readers.{starts};
-ghost use Rattle.parse_constructor.specs.Views.{open_after, selecting_first, arithmetic_first, relational_first, testing_first};
+ghost use Rattle.parse_constructor.specs.Views.{open_after, selecting_first, arithmetic_first, relational_first, testing_first, enclosing_first};
 ghost use Rattle.syntax_readers.specs.Combinators.{opening, closing};
 ghost use Rattle.syntax_readers.specs.Declarations as spec;
 ghost use Rattle.token_codes.specs.Codes.{class_of};
 
 use dart_token::sign::Sign;
 use dart_token::word::Word;
+use token_cursor::codes::{MIDDLE, TAIL};
 use token_cursor::cursor::Cursor;
 
 // Whether a bracket comes that opens.
@@ -94,6 +95,13 @@ fn sees_testing(cursor: &Cursor<'_>) -> bool
         || cursor.sees_word(Word::As)
 }
 
+// Whether the conditional or the string goes on that holds a block.
+fn sees_enclosing(cursor: &Cursor<'_>) -> bool
+    ensures { result ≡ starts class_of enclosing_first cursor.now }
+{
+    cursor.sees(Sign::Colon) || cursor.sees_code(MIDDLE) || cursor.sees_code(TAIL)
+}
+
 // Whether the constructor goes on behind the block of an initialiser.
 #[tactic(auto, using(crate::proofs::Scanning::behind_init_is))]
 fn goes_on(cursor: &Cursor<'_>) -> bool
@@ -103,6 +111,7 @@ fn goes_on(cursor: &Cursor<'_>) -> bool
         || sees_arithmetic(cursor)
         || sees_relational(cursor)
         || sees_testing(cursor)
+        || sees_enclosing(cursor)
 }
 
 // Whether the body begins here.

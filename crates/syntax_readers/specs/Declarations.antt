@@ -22,7 +22,7 @@ use Rattle.grammar_laws.specs.Readers.{Reader, nothing, always, mapped, checked,
 use Rattle.grammar_laws.specs.Halves.{strict}
 use Rattle.dart_syntax.specs.Types.{result_leaves_name}
 use Rattle.dart_syntax.specs.Declarations.{to_type_parameters, to_inits, an_accessor, ClassHeader, a_class, class_name, operator_signs}
-use Rattle.token_codes.specs.Codes.{class_of, names, sign_code, word_code, these, this_word}
+use Rattle.token_codes.specs.Codes.{class_of, middle_code, names, sign_code, tail_code, word_code, these, this_word}
 use Rattle.token_codes.specs.Leaves.{sign, word, identifier, plain_identifier, named, dot_name, this_dot}
 use Rattle.syntax_readers.specs.Combinators.{◌~◌, made₂, made₃, made₄, made₅, made₆, made₇, made₈, always_gives, option_where, open_behind, behind_brackets, up_to}
 use Rattle.syntax_readers.specs.Types.{types, type_first, result_comes, result}
@@ -194,7 +194,8 @@ behind_init = sign_code s.LeftBrace ∷ sign_code s.Semicolon ∷ sign_code s.Co
     ∷ sign_code s.Less
     ∷ sign_code s.LessEqual ∷ sign_code s.GreaterEqual ∷ sign_code s.EqualEqual
     ∷ sign_code s.NotEqual
-    ∷ sign_code s.AndAnd ∷ sign_code s.OrOr ∷ word_code w.Is ∷ word_code w.As ∷ []
+    ∷ sign_code s.AndAnd ∷ sign_code s.OrOr ∷ word_code w.Is ∷ word_code w.As ∷ sign_code s.Colon
+    ∷ middle_code ∷ tail_code ∷ []
 
 -- a block begins here, with no bracket open, and nothing goes on behind it
 abbrev pub is_body : ℕ → List Token → Bool
