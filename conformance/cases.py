@@ -1,13 +1,15 @@
-"""The cases of conformance/ and examples/: where each is, what it runs and what is due. `run` and `sweep` use it.
+"""The cases of conformance/ and examples/: where each is, what it runs and what is due. `run`, `cores` and `sweep` use it.
 
 A case NAME is a file NAME.stdout, which holds the bytes that are due, and beside it:
     NAME.dart     the file that is run; where there is none, the words stand in NAME.args
     NAME.repeat   in place of NAME.dart: a number and a line feed, and then the bytes that NAME.dart has so many times
     NAME.files/   further files, which lie in the folder that the program runs in
     NAME.copies   a number and a line feed, and then the bytes of each of so many further files f0.dart, f1.dart ..
-    NAME.args     the words, one a line; without it they are `run` and `NAME.dart`, in erased/ `erase` and `NAME.dart`
+    NAME.args     the words, one a line; without it they are `run` and `NAME.dart`, in erased/ `erase` and `NAME.dart`, in core/ `NAME.dart`
     NAME.status   the status, where it isn't that of the case's folder (STATUS, below)
     NAME.output   a device that takes the output, in place of a comparison
+
+Those of core/ are run by `core_print`, all others by `dart`.
 """
 import argparse
 import os
@@ -22,14 +24,25 @@ DART = ROOT / 'dart'
 NOT_BUILT = 125
 STATUS = {
     'examples': 0, 'runs': 0, 'erased': 0, 'warned': 1, 'usage': 2, 'refused': 3, 'uncaught': 4, 'fails-check': 5, 'limits': 6,
+    'core': 0,
 }
+CORES = ROOT / 'conformance' / 'core'
 ENDINGS = ('.stdout', '.dart', '.repeat', '.files', '.copies', '.args', '.status', '.output')
 
 
-def all_cases():
-    """The paths of all cases, without their endings."""
-    folders = [ROOT / 'examples'] + sorted(p for p in (ROOT / 'conformance').iterdir() if p.is_dir())
+def cases_in(folders):
+    """The paths of the cases in the folders, without their endings."""
     return [p.with_suffix('') for folder in folders for p in sorted(folder.glob('*.stdout'))]
+
+
+def all_cases():
+    """All cases that `dart` runs."""
+    return cases_in([ROOT / 'examples'] + sorted(p for p in (ROOT / 'conformance').iterdir() if p.is_dir() and p != CORES))
+
+
+def all_cores():
+    """All cases that `core_print` runs."""
+    return cases_in([CORES])
 
 
 def beside(case, ending):
@@ -45,8 +58,8 @@ def words(case):
     args = beside(case, '.args')
     if args.exists():
         return args.read_bytes().split(b'\n')[:-1]
-    command = b'erase' if case.parent.name == 'erased' else b'run'
-    return [command, os.fsencode(case.name + '.dart')]
+    command = {'erased': [b'erase'], 'core': []}.get(case.parent.name, [b'run'])
+    return command + [os.fsencode(case.name + '.dart')]
 
 
 def due_status(case):
@@ -88,15 +101,15 @@ def own(word):
     return [path.with_suffix('')] if path.suffix == '.dart' and path.is_file() else []
 
 
-def chosen(description, takes_own=False):
-    """The cases that the command line names, or all. Ends with status 2 where a word names none."""
+def chosen(description, takes_own=False, cases=None):
+    """Those of the cases that the command line names, or all; they are those of `dart` where none are given. Ends with status 2 where a word names none."""
+    cases = all_cases() if cases is None else cases
     parser = argparse.ArgumentParser(
         description=description, formatter_class=argparse.RawDescriptionHelpFormatter)
     parser.add_argument(
         'case', nargs='*', metavar='CASE',
-        help='a case such as conformance/runs/sum%s or a folder of cases; without one, all' % (
-            ', a .dart file of your own' if takes_own else ''))
-    cases = all_cases()
+        help='a case such as %s%s or a folder of cases; without one, all' % (
+            shown(cases[0]), ', a .dart file of your own' if takes_own else ''))
     found = []
     for word in parser.parse_args().case:
         some = named(word, cases) or (takes_own and own(word))

@@ -1,0 +1,9 @@
+f(a) {
+  if (a) {
+    a;
+  } else
+    null;
+  if (a) a;
+  if (a) var b, c;
+}
+main() {}

@@ -1,0 +1,9 @@
+f() {
+  null;
+  true;
+  false;
+  12;
+  'text';
+  f;
+}
+main() {}

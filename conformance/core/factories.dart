@@ -1,0 +1,4 @@
+class C<T> {
+  factory C.m(a) => a;
+}
+main() {}

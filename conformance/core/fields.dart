@@ -1,0 +1,5 @@
+class C {
+  var a;
+  final int b = 1;
+}
+main() {}

@@ -1,0 +1,3 @@
+f(a) => {'x': a};
+g() => <String, int>{'x': 1};
+main() {}

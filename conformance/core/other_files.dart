@@ -1,0 +1,2 @@
+import 'b.dart';
+main() {}

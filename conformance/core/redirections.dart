@@ -1,0 +1,5 @@
+class C {
+  C(a);
+  C.n(b) : this(b);
+}
+main() {}

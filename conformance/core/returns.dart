@@ -1,0 +1,8 @@
+f(a) => a;
+g(a) {
+  return a;
+}
+h() {
+  return;
+}
+main() {}

@@ -1,0 +1,5 @@
+var s = 1;
+int t = 2;
+final u = s;
+var v;
+main() {}

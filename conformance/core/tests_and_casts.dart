@@ -1,0 +1,8 @@
+f(a, b) {
+  a is int;
+  a as C<int>;
+  a is! C;
+  a == b;
+}
+class C<T> {}
+main() {}

@@ -1,0 +1,8 @@
+class C<T> {
+  m() {
+    this;
+    C;
+    T;
+  }
+}
+main() {}
