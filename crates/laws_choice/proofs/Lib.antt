@@ -1,0 +1,11 @@
+pub mod TypesGo
+pub mod MetadataGrow
+pub mod Judging
+pub mod Leading
+pub mod Refuting
+pub mod Types
+pub mod Aliases
+pub mod Callables
+pub mod CallChoices
+pub mod Variables
+pub mod CallablesApart
