@@ -1,6 +1,6 @@
 -- No list of tokens leaves a choice: where the tokens of a declaration lead, nothing that begins an expression does, and the other way
 -- round.
-use Rattle.std.proofs.Common.{◌≡◌, ℕ, Bool, true, false, not, ◌&&◌, List, [], ◌∷◌, ◌++◌, inl, inr, refl, sym, ap, ◌∙◌, subst, append_assoc}
+use Rattle.std.proofs.Common.{◌≡◌, ℕ, Bool, true, false, List, [], ◌∷◌, ◌++◌, inl, inr, refl, sym, ap, ◌∙◌, subst, append_assoc}
 use Rattle.dart_base.specs.declared.place.Place.{Place}
 use Rattle.dart_token.specs.declared.token.Token.{Token}
 use Rattle.dart_token.specs.declared.sign.Sign.{Sign}
@@ -16,7 +16,7 @@ use Rattle.dart_tree.specs.Types.{VariableKind}
 use Rattle.dart_tree.specs.Tokens.{stmt_tokens, value_tokens, variables_tokens}
 use Rattle.grammar_laws.specs.Codes.{has}
 use Rattle.grammar_laws.specs.Fronts.{both_spelling}
-use Rattle.grammar_laws.proofs.Codes.{and_both, clash, has_cases}
+use Rattle.grammar_laws.proofs.Codes.{clash, has_cases}
 use Rattle.dart_syntax.specs.Phrases.{◌<|>◌}
 use Rattle.dart_syntax.specs.Leaves.{sign_tokens, begins_with_no_brace}
 use Rattle.dart_syntax.specs.Statements as p
@@ -29,9 +29,10 @@ use Rattle.syntax_readers.specs.Types.{type_first}
 use Rattle.laws_stmt.specs.Besides.{kind_name_of}
 use Rattle.laws_apart.specs.Statements.{body_codes, behind_on_name, start_of, ApartAt, HeadsApartAt}
 use Rattle.laws_apart.proofs.Telling.{Sort, name, dynamic, dot, less, colon, body, other, State, begun, named, second, called, typed, known, free, neither}
-use Rattle.laws_apart.proofs.Telling.{sign_sort, word_sort, kind_sort, step, calls, judge, judge_by, among, under, included, stay, stays}
-use Rattle.laws_apart.proofs.Leading.{Through, through_both, Leads, one_through, the_sign, an_identifier, seq_leads, made_leads, perhaps_leads}
-use Rattle.laws_apart.proofs.Leading.{such_tokens_leads, eased}
+use Rattle.laws_apart.proofs.Telling.{sign_sort, word_sort, kind_sort, step, calls, judge, judge_by, among, under, stays}
+use Rattle.laws_apart.proofs.Judges as j
+use Rattle.laws_apart.proofs.Judges.{refuses, distinct, through_both, the_sign, an_identifier, seq_leads, made_leads, perhaps_leads, such_tokens_leads, eased}
+use Rattle.laws_apart.proofs.Leading.{telling, Through, Leads, one_through}
 use Rattle.laws_apart.proofs.Types.{kind_fine, at_begin, behind_any_kind, types_lead, any_kind_leads}
 use Rattle.laws_apart.proofs.Declared.{declared_fine, at_wrong, variables_lead_at, declarations_lead}
 use Rattle.laws_apart.proofs.Operands.{fine, at_free}
@@ -40,16 +41,8 @@ use Rattle.laws_apart.proofs.Bracketed.{brackets}
 
 -- ---- what leads to a state that no token changes is no beginning of what never leads there
 
-abbrev refuses : (State → Bool) → State → Bool
-refuses good z = stay z && not (good z)
-
-refused_at : (good : State → Bool) (z : State) (ts : List Token) → refuses good z ≡ true → good (judge z ts) ≡ true → ⊥
-refused_at good z ts h begins =
-    let parts = and_both (stay z) (not (good z)) h in
-    clash (not (good z)) parts.1 (ap not (sym (ap good (stays z parts.0 ts)) ∙ begins))
-
-refuted : (good f : State → Bool) → under f (refuses good) ≡ true → (xs ts : List Token) → Through f begun xs → good (judge begun (xs ++ ts)) ≡ true → ⊥
-refuted good f h xs ts a begins = refused_at good a.0 ts (included f (refuses good) h a.0 a.1) (sym (ap good (a.2 ts)) ∙ begins)
+refuted : (good f : State → Bool) → under f (refuses telling good) ≡ true → (xs ts : List Token) → Through f begun xs → good (judge begun (xs ++ ts)) ≡ true → ⊥
+refuted = j.refuted telling begun
 
 -- ---- tokens by their codes
 
@@ -116,8 +109,8 @@ module _ (n : ℕ) where
 
   started : Leads fine at_begin at_free start_tokens (start_of n)
   unfolding value_tokens
-  started = seq_leads (perhaps_leads (made_leads (eased (exprs_lead brackets n) fine at_begin begun_or_loose refl) value_tokens _ (λ x. refl)) t.omitted refl refl
-      refl) (the_sign fine begun_or_loose at_free s.Semicolon refl)
+  started = seq_leads (perhaps_leads (made_leads (eased (exprs_lead brackets n) fine at_begin begun_or_loose refl) value_tokens _ (λ x. refl)) t.omitted
+      refl refl refl) (the_sign fine begun_or_loose at_free s.Semicolon refl)
 
   acted : Leads fine at_begin at_free stmt_tokens (p.expression_of (within n).nodes)
   unfolding stmt_tokens
@@ -133,10 +126,8 @@ module _ (n : ℕ) where
         (acted.holds (stmt_tokens a ++ t ∷ ts) f begun refl);
     over_expression = λ b t ts fits f. refuted declared_fine at_free refl (stmt_tokens b) (t ∷ ts) (acted.ends b fits begun refl)
         (declared.holds (stmt_tokens b ++ t ∷ ts) f begun refl);
-    never_both = λ a b fits acts same.
-        let c = acted.ends b acts begun refl in
-        refuted fine at_wrong refl (stmt_tokens a) [] (declared.ends a fits begun refl)
-        (ap (λ (l : List Token). fine (judge begun (l ++ []))) same ∙ ap fine (c.2 []) ∙ included at_free fine refl c.0 c.1);
+    never_both = λ a b fits acts same. distinct telling begun fine at_wrong at_free refl refl (stmt_tokens a) (stmt_tokens b)
+        (declared.ends a fits begun refl) (acted.ends b acts begun refl) same;
     no_label = λ a c ts n h. neither_begins (a ∷ c ∷ ts) (label_leads a c ts n h);
     no_part = λ a b c ts n h k. neither_begins (a ∷ b ∷ c ∷ ts) (part_leads a b c ts n h k);
   }
@@ -158,11 +149,11 @@ module _ (n : ℕ) where
   in_through : (x : VariableKind × Identifier) (u : Token) → (kind_name_of n).Fits x → has (this_word w.In) (class_of u) ≡ true → Through at_neither begun
       ((kind_name_of n).spelling x ++ u ∷ [])
   in_through x u fits h = subst (λ (v : Token). Through at_neither begun ((kind_name_of n).spelling x ++ v ∷ [])) (only_word w.In u h)
-      (through_both behind_name at_neither begun ((kind_name_of n).spelling x) (word_at u.place w.In ∷ []) (kind_named.ends x fits begun refl)
-      (one_through kind_fine behind_name at_neither (word_at u.place w.In) refl))
+      (through_both telling behind_name at_neither begun ((kind_name_of n).spelling x) (word_at u.place w.In ∷ []) (kind_named.ends x fits begun refl)
+      (one_through behind_name at_neither (word_at u.place w.In) refl))
 
   -- behind a name no head goes on with `in`, but that of a for-in
-  in_refuted : (good : State → Bool) → under at_neither (refuses good) ≡ true → (x : VariableKind × Identifier) (u : Token) (ts : List Token) →
+  in_refuted : (good : State → Bool) → under at_neither (refuses telling good) ≡ true → (x : VariableKind × Identifier) (u : Token) (ts : List Token) →
       (kind_name_of n).Fits x → has (this_word w.In) (class_of u) ≡ true →
       good (judge begun ((kind_name_of n).spelling x ++ u ∷ ts)) ≡ true → ⊥
   in_refuted good off x u ts fits h begins = refuted good at_neither off ((kind_name_of n).spelling x ++ u ∷ []) ts (in_through x u fits h)

@@ -15,8 +15,9 @@ use Rattle.dart_syntax.proofs.AgreeingTypes.{sign_agrees}
 use Rattle.dart_syntax.proofs.AgreeingStatements.{said_variables, said_word}
 use Rattle.dart_syntax.proofs.AgreeingStages.{said_stmts, within_agrees}
 use Rattle.laws_apart.proofs.Telling.{State, named, called, opened, shut, typing, typed, known, free, wrong, neither, among, outside}
-use Rattle.laws_apart.proofs.Leading.{Leads, none_leads, empty_leads, the_sign, an_identifier, seq_leads, seq_if_leads, either_leads, perhaps_leads}
-use Rattle.laws_apart.proofs.Leading.{made_leads, many_leads, eased, absorbs, Parenthesized, parenthesized_leads}
+use Rattle.laws_apart.proofs.Judges.{none_leads, empty_leads, the_sign, an_identifier, seq_leads, seq_if_leads, either_leads, perhaps_leads, made_leads}
+use Rattle.laws_apart.proofs.Judges.{many_leads, eased, absorbs, Parenthesized}
+use Rattle.laws_apart.proofs.Leading.{Leads, parenthesized_leads}
 use Rattle.laws_apart.proofs.Types.{at_begin, behind_any_kind, behind_variables_kind, TypesLead, types_lead, variables_kind_leads, result_leads}
 
 -- what no beginning of a declaration leads to

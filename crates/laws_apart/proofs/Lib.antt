@@ -1,3 +1,4 @@
+pub mod Judges
 pub mod Telling
 pub mod Leading
 pub mod Types

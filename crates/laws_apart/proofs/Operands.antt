@@ -33,12 +33,12 @@ use Rattle.dart_syntax.proofs.Agreeing.{leaf_agrees, seq_agrees, many_agrees, op
 use Rattle.dart_syntax.proofs.AgreeingTypes.{sign_agrees, commas_agree, said_angles, one_type_agrees, two_types_agree}
 use Rattle.dart_syntax.proofs.AgreeingExpressions.{head_tokens, one_string_agrees, plain_list_agrees, selector_agrees, said_sign, said_entries, said_middles}
 use Rattle.dart_syntax.proofs.AgreeingExpressions.{said_append, said_joined}
-use Rattle.laws_apart.proofs.Telling.{Sort, name, constant, dot, less, greater, left, ending, body, other, State, begun, named, dotted, compared, second}
+use Rattle.laws_apart.proofs.Telling.{Sort, constant, dot, less, greater, left, ending, body, other, State, begun, named, dotted, compared, second}
 use Rattle.laws_apart.proofs.Telling.{second_dotted, closed, called, opened, shut, typing, typed, known, free, wrong, neither, sign_sort, kind_sort, among}
 use Rattle.laws_apart.proofs.Telling.{outside, under, included, goes}
-use Rattle.laws_apart.proofs.Leading.{Through, Leads, leap, leaps, one_through, name_through, leaf_leads, none_leads, the_sign, the_word, an_identifier}
-use Rattle.laws_apart.proofs.Leading.{seq_leads, either_leads, opt_leads, such_leads, made_leads, absorbs, dot_name_leads, raised, Parenthesized}
-use Rattle.laws_apart.proofs.Leading.{parenthesized_leads}
+use Rattle.laws_apart.proofs.Judges.{name_through, leaf_leads, none_leads, the_sign, the_word, an_identifier, seq_leads, either_leads, opt_leads, such_leads}
+use Rattle.laws_apart.proofs.Judges.{made_leads, absorbs, dot_name_leads, raised, Parenthesized, names}
+use Rattle.laws_apart.proofs.Leading.{Through, Leads, leap, leaps, one_through, parenthesized_leads, telling, leap_name}
 use Rattle.laws_apart.proofs.Types.{inner_types, at_begin}
 
 -- what no beginning of an expression leads to
@@ -66,7 +66,7 @@ leap_goes f g c h = (and_both (goes f c g) (under f fine && under g fine) h).0
 pub record Entry (from args dots end : State → Bool) : Type 0 where
   pub low : under from fine ≡ true
   pub high : under end fine ≡ true
-  pub named_end : leap fine from name end ≡ true
+  pub named_end : leap_name fine from end ≡ true
   pub other_opens : leap fine from other at_free ≡ true
   pub left_opens : leap fine from left at_free ≡ true
   pub less_opens : leap fine from less at_free ≡ true
@@ -78,7 +78,7 @@ pub record Entry (from args dots end : State → Bool) : Type 0 where
   pub args_other : leap fine args other at_free ≡ true
   pub args_body : leap fine args body at_free ≡ true
   pub dotted_end : leap fine end dot dots ≡ true
-  pub member_end : leap fine dots name end ≡ true
+  pub member_end : leap_name fine dots end ≡ true
   pub freed : leap fine end other at_free ≡ true
   pub ended : leap fine end ending at_free ≡ true
   pub half : leap fine end greater halved ≡ true
@@ -205,7 +205,7 @@ module _ {from args dots end : State → Bool} (E : Entry from args dots end) wh
   freely P = raised end (included at_free end E.free_end) P
 
   free_token : (x : Token) → kind_sort x.kind ≡ other → (z : State) → from z ≡ true → Through at_free z (x ∷ [])
-  free_token x is z at = one_through fine from at_free x (ap (λ (k : Sort). goes from k at_free) is ∙ leap_goes from at_free other E.other_opens) z at
+  free_token x is z at = one_through from at_free x (ap (λ (k : Sort). goes from k at_free) is ∙ leap_goes from at_free other E.other_opens) z at
 
   -- ---- primaries
 
@@ -221,7 +221,8 @@ module _ {from args dots end : State → Bool} (E : Entry from args dots end) wh
   atom_ends (a.True place) z at = at_last (word_at place w.True) refl z at
   atom_ends (a.False place) z at = at_last (word_at place w.False) refl z at
   atom_ends (a.Integer place digits) z at = at_last (record { kind = tk.Integer; place = place; lexeme = digits }) refl z at
-  atom_ends (a.Name x) z at = name_through fine from end (leap_goes from end name E.named_end) x z at
+  atom_ends (a.Name x) z at = name_through telling from end
+      (and_both (names telling from end) (under from fine && under end fine) E.named_end).0 x z at
 
   whole_leads : Leads fine from at_free (piece_tokens pk.Whole) (piece pk.Whole)
   whole_leads = leaf_leads fine from at_free (piece_tokens pk.Whole) E.low refl (λ x z at. free_token (piece_token pk.Whole x.0 x.1) refl z at)
@@ -243,8 +244,8 @@ module _ {from args dots end : State → Bool} (E : Entry from args dots end) wh
         (λ x. said_append x.0 (joined x.1) ∙ ap (λ l. pieces_tokens x.0 ++ l) (said_joined x.1))
 
   made_token : (x : Creation) (z : State) → from z ≡ true → Through at_made z (creation_tokens x)
-  made_token (c.New place) z at = one_through fine from at_made (word_at place w.New) (leap_goes from at_made other E.new_makes) z at
-  made_token (c.Const place) z at = one_through fine from at_made (word_at place w.Const) (leap_goes from at_made constant E.makes) z at
+  made_token (c.New place) z at = one_through from at_made (word_at place w.New) (leap_goes from at_made other E.new_makes) z at
+  made_token (c.Const place) z at = one_through from at_made (word_at place w.Const) (leap_goes from at_made constant E.makes) z at
 
   module _ {here : ExprNodes} (H : ExprsAgree here) (C : Parenthesized arguments_tokens here.arguments) where
     pub primary_leads : Leads fine at_made behind_made type_tokens here.type → Leads fine from end primary_tokens here.literal →

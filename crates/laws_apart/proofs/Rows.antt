@@ -25,8 +25,9 @@ use Rattle.dart_syntax.proofs.AgreeingTypes.{sign_agrees}
 use Rattle.dart_syntax.proofs.AgreeingExpressions.{said_sign, said_selectors, said_cascades, said_tails}
 use Rattle.dart_syntax.proofs.AgreeingStages.{within_agrees}
 use Rattle.laws_apart.proofs.Telling.{ending, State, named, compared, second, called, free, among, under, included}
-use Rattle.laws_apart.proofs.Leading.{Leads, leap, none_leads, empty_leads, the_sign, the_word, seq_leads, seq_if_leads, either_leads, such_leads, made_leads}
-use Rattle.laws_apart.proofs.Leading.{many_leads, some_if_leads, eased, absorbs, absorbs_own, respelled, raised, merged, Parenthesized}
+use Rattle.laws_apart.proofs.Judges.{none_leads, empty_leads, the_sign, the_word, seq_leads, seq_if_leads, either_leads, such_leads, made_leads, many_leads}
+use Rattle.laws_apart.proofs.Judges.{some_if_leads, eased, absorbs, absorbs_own, respelled, raised, merged, Parenthesized}
+use Rattle.laws_apart.proofs.Leading.{Leads, leap}
 use Rattle.laws_apart.proofs.Types.{at_begin}
 use Rattle.laws_apart.proofs.Operands.{fine, at_free, Entry, tight, at_compared, behind_second, from_begun, from_compared, all_other, others_lead}
 use Rattle.laws_apart.proofs.Operands.{shifting_leads, assigning_leads, made_types, freely, primary_leads, member_leads, bracketed_leads, literal_leads}

@@ -1,7 +1,6 @@
 -- A test of lists of tokens that tells by how a list begins what it can be: what begins with a type and a name, with a name, parameters
 -- and a body, or with `const` and a type or a name and no parenthesis, declares something.
 use Rattle.std.proofs.Common.{◌≡◌, ℕ, ◌==◌, Bool, true, false, not, ◌&&◌, ◌||◌, if◌then◌else◌, List, [], ◌∷◌, refl, sym, ap, ◌∙◌}
-use Rattle.std.specs.List.{AllByRecursion}
 use Rattle.dart_token.specs.declared.token.Token.{Token}
 use Rattle.dart_token.specs.declared.token.TokenKind.{TokenKind}
 use Rattle.dart_token.specs.declared.token.TokenKind.TheVariants as tk
@@ -11,6 +10,7 @@ use Rattle.dart_token.specs.declared.word.Word.{Word}
 use Rattle.dart_token.specs.declared.word.Word.TheVariants as w
 use Rattle.grammar_laws.proofs.Codes.{and_both}
 use Rattle.syntax_readers.specs.Combinators.{behind_brackets}
+use Rattle.laws_apart.proofs.Judges.{all_of, each, implies, implied}
 
 -- ---- the tokens that matter
 
@@ -205,19 +205,11 @@ among (x ∷ xs) z = index z == index x || among xs z
 abbrev pub outside : List State → State → Bool
 outside xs z = not (among xs z)
 
-abbrev all_of : (State → Bool) → List State → Bool
-all_of g [] = true
-all_of g (z ∷ zs) = g z && all_of g zs
-
 abbrev states : List State
 states = begun ∷ named ∷ dotted ∷ compared ∷ second ∷ second_dotted ∷ closed ∷ called ∷ opened ∷ shut ∷ typing ∷ typed ∷ known ∷ free ∷ wrong ∷ neither ∷ []
 
 abbrev pub every : (State → Bool) → Bool
 every g = all_of g states
-
-each : (g : State → Bool) (zs : List State) → all_of g zs ≡ true → AllByRecursion (λ z. g z ≡ true) zs
-each g [] h = tt
-each g (z ∷ zs) h = let parts = and_both (g z) (all_of g zs) h in (parts.0, each g zs parts.1)
 
 pub every_gives : (g : State → Bool) → every g ≡ true → (z : State) → g z ≡ true
 every_gives g h begun = (each g states h).0
@@ -236,14 +228,6 @@ every_gives g h known = (each g states h).1.1.1.1.1.1.1.1.1.1.1.1.0
 every_gives g h free = (each g states h).1.1.1.1.1.1.1.1.1.1.1.1.1.0
 every_gives g h wrong = (each g states h).1.1.1.1.1.1.1.1.1.1.1.1.1.1.0
 every_gives g h neither = (each g states h).1.1.1.1.1.1.1.1.1.1.1.1.1.1.1.0
-
-abbrev pub implies : Bool → Bool → Bool
-implies true b = b
-implies false b = true
-
-pub implied : (a b : Bool) → implies a b ≡ true → a ≡ true → b ≡ true
-implied true b h e = h
-implied false b h e = absurd cc
 
 -- each state of the first set is in the second
 abbrev pub under : (State → Bool) → (State → Bool) → Bool

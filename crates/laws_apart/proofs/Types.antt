@@ -10,10 +10,11 @@ use Rattle.dart_syntax.specs.Types.{type_list, in_angles, types, type_arguments,
 use Rattle.dart_syntax.specs.Types.{without_kind}
 use Rattle.dart_syntax.specs.Statements.{within, nodes_over}
 use Rattle.dart_syntax.proofs.AgreeingTypes.{said_more, said_angles}
-use Rattle.laws_apart.proofs.Telling.{name, dynamic, dot, less, greater, comma, State, begun, named, dotted, compared, second, second_dotted}
+use Rattle.laws_apart.proofs.Telling.{dynamic, dot, less, greater, comma, State, begun, named, dotted, compared, second, second_dotted}
 use Rattle.laws_apart.proofs.Telling.{closed, opened, shut, typing, typed, free, wrong, neither, among, outside, under, included}
-use Rattle.laws_apart.proofs.Leading.{Leads, leap, none_leads, empty_leads, the_sign, the_word, an_identifier, seq_leads, either_leads, opt_leads, made_leads}
-use Rattle.laws_apart.proofs.Leading.{many_leads, eased, dot_name_leads}
+use Rattle.laws_apart.proofs.Judges.{none_leads, empty_leads, the_sign, the_word, an_identifier, seq_leads, either_leads, opt_leads, made_leads, many_leads}
+use Rattle.laws_apart.proofs.Judges.{eased, dot_name_leads}
+use Rattle.laws_apart.proofs.Leading.{Leads, leap, leap_name}
 
 -- what no kind and name leads to
 abbrev pub kind_fine : State → Bool
@@ -33,7 +34,7 @@ module _ (fine f m d o again k g : State → Bool) {p : Phrase TypeNode} where
       (the_sign fine k g s.Greater closes))) (included m g sub))
       type_arguments_tokens in_angles said_angles
 
-  pub type_leads : leap fine f dynamic g ≡ true → leap fine f name m ≡ true → leap fine m dot d ≡ true → leap fine d name m ≡ true →
+  pub type_leads : leap fine f dynamic g ≡ true → leap_name fine f m ≡ true → leap fine m dot d ≡ true → leap_name fine d m ≡ true →
       leap fine m less o ≡ true → leap fine k comma again ≡ true → leap fine k greater g ≡ true → under m g ≡ true → Leads fine o k type_tokens p →
       Leads fine again k type_tokens p → Leads fine f g type_tokens (type_over p)
   type_leads alone first dots member opens more closes sub I J = either_leads
@@ -42,7 +43,7 @@ module _ (fine f m d o again k g : State → Bool) {p : Phrase TypeNode} where
       (seq_leads (opt_leads (dot_name_leads fine m d m dots member) (λ z h. h)) (angles_lead opens more closes sub I J))) type_tokens _ (λ x. refl))
 
 -- where it leads from the first set to the second, and so do its parts
-pub inner_types : (fine f g : State → Bool) → under f fine ≡ true → leap fine f dynamic g ≡ true → leap fine f name g ≡ true → leap fine g dot f ≡ true →
+pub inner_types : (fine f g : State → Bool) → under f fine ≡ true → leap fine f dynamic g ≡ true → leap_name fine f g ≡ true → leap fine g dot f ≡ true →
     leap fine g less f ≡ true →
     leap fine g comma f ≡ true → leap fine g greater g ≡ true → under g g ≡ true → (n : ℕ) → Leads fine f g type_tokens (type_within n)
 unfolding type_within

@@ -16,12 +16,12 @@ use Rattle.dart_syntax.proofs.AgreeingTypes.{sign_agrees, identifier_agrees, dot
 use Rattle.dart_syntax.proofs.AgreeingStatements.{said_metadata, said_annotation}
 use Rattle.dart_syntax.proofs.AgreeingDeclarations.{said_parameters}
 use Rattle.dart_syntax.proofs.AgreeingStages.{within_agrees}
+use Rattle.laws_apart.proofs.Judges.{empty_leads, the_sign, the_word, seq_leads, opt_leads, made_leads, many_leads, eased, absorbs, absorbs_own, refuted}
+use Rattle.laws_apart.proofs.Judges.{distinct}
 use Rattle.laws_apart.proofs.Bracketed.{brackets}
 use Rattle.laws_unit.specs.Statements.{alias_with, some_result, no_result, AliasesApartAt}
 use Rattle.laws_choice.proofs.Judging.{State, begun, named, listing, listed, closed, resulting, bare, among, outside, included}
-use Rattle.laws_choice.proofs.Leading.{Leads, empty_leads, the_sign, the_word, a_plain_identifier, seq_leads, opt_leads, made_leads, many_leads, eased}
-use Rattle.laws_choice.proofs.Leading.{absorbs, absorbs_own, parenthesized_leads}
-use Rattle.laws_choice.proofs.Refuting.{refuted, distinct}
+use Rattle.laws_choice.proofs.Leading.{Leads, a_plain_identifier, parenthesized_leads, judging}
 use Rattle.laws_choice.proofs.Types.{at_begin, at_aliased, at_resulting, result_fine, behind_result, types_lead, aliased_result_leads}
 
 -- what no alias without a result leads to
@@ -97,10 +97,10 @@ module _ (n : ℕ) where
 
   pub aliases_apart_at : AliasesApartAt n
   aliases_apart_at = record {
-    over_typed = λ a t ts fits f. refuted bare_fine at_resulting refl (alias_tokens a) (t ∷ ts) (typed_leads.ends a fits begun refl)
+    over_typed = λ a t ts fits f. refuted judging begun bare_fine at_resulting refl (alias_tokens a) (t ∷ ts) (typed_leads.ends a fits begun refl)
         (bare_leads.holds (alias_tokens a ++ t ∷ ts) f begun refl);
-    over_bare = λ a t ts fits f. refuted result_fine at_bare refl (alias_tokens a) (t ∷ ts) (bare_leads.ends a fits begun refl)
+    over_bare = λ a t ts fits f. refuted judging begun result_fine at_bare refl (alias_tokens a) (t ∷ ts) (bare_leads.ends a fits begun refl)
         (typed_leads.holds (alias_tokens a ++ t ∷ ts) f begun refl);
-    never_both = λ a b fits other same. distinct bare_fine at_resulting at_bare refl refl (alias_tokens a) (alias_tokens b) (typed_leads.ends a fits begun refl)
-        (bare_leads.ends b other begun refl) same;
+    never_both = λ a b fits other same. distinct judging begun bare_fine at_resulting at_bare refl refl (alias_tokens a) (alias_tokens b)
+        (typed_leads.ends a fits begun refl) (bare_leads.ends b other begun refl) same;
   }

@@ -10,12 +10,12 @@ use Rattle.dart_syntax.specs.Declarations.{external_or_none, function_within, ac
 use Rattle.dart_syntax.specs.Agreement.{StmtsAgree}
 use Rattle.dart_syntax.proofs.AgreeingStatements.{said_word, body_agrees}
 use Rattle.dart_syntax.proofs.AgreeingStages.{within_agrees}
-use Rattle.laws_apart.proofs.Leading.{Parenthesized}
+use Rattle.laws_apart.proofs.Judges.{Parenthesized, none_leads, the_word, an_identifier, seq_leads, seq_narrow_leads, either_leads, opt_leads, made_leads}
+use Rattle.laws_apart.proofs.Judges.{eased, absorbs}
+use Rattle.laws_choice.proofs.Leading.{Leads, parenthesized_leads}
 use Rattle.laws_apart.proofs.Bracketed.{brackets}
 use Rattle.laws_unit.specs.Statements.{function_decls, accessor_decls}
 use Rattle.laws_choice.proofs.Judging.{State, lone, typed, known, known_word, calling, accessing, holding, among, outside}
-use Rattle.laws_choice.proofs.Leading.{Leads, none_leads, the_word, an_identifier, seq_leads, seq_if_leads, either_leads, opt_leads, made_leads, eased, absorbs}
-use Rattle.laws_choice.proofs.Leading.{parenthesized_leads}
 use Rattle.laws_choice.proofs.Types.{at_begin, any_result, begun_or_typed, TypesLead, types_lead, result_leads, result_narrow}
 
 -- what no beginning of a function leads to, and none of an accessor
@@ -44,8 +44,8 @@ module _ {inner : StmtNodes} (A : StmtsAgree inner) (T : TypesLead inner.expr_no
       (function_over inner external_or_none (body_of inner.expr_nodes))
   unfolding function_tokens
   function_leads P = made_leads (seq_leads (opt_leads (the_word function_fine at_begin at_begin w.External refl) (λ z h. h))
-      (seq_leads (seq_if_leads (eased (result_leads T) function_fine at_begin any_result refl) result_leaves_name
-      (an_identifier function_fine begun_or_typed behind_name refl) (result_narrow T))
+      (seq_leads (seq_narrow_leads (eased (result_leads T) function_fine at_begin any_result refl)
+      (an_identifier function_fine begun_or_typed behind_name refl) result_leaves_name (result_narrow T))
       (seq_leads (parenthesized_leads function_fine behind_name at_calling P refl refl) (absorbs function_fine at_calling refl (body_agrees A.expr_nodes)))))
       function_tokens _ (λ x. simp (said_word, append_assoc))
 
@@ -59,7 +59,7 @@ module _ {inner : StmtNodes} (A : StmtsAgree inner) (T : TypesLead inner.expr_no
 
   accessor_leads : Leads accessor_fine at_begin at_accessing accessor_tokens (accessor_over inner external_or_none)
   accessor_leads = made_leads (seq_leads (opt_leads (the_word accessor_fine at_begin at_begin w.External refl) (λ z h. h))
-      (seq_leads (seq_if_leads (eased (result_leads T) accessor_fine at_begin any_result refl) result_leaves_name accessor_kind_leads (result_narrow T))
+      (seq_leads (seq_narrow_leads (eased (result_leads T) accessor_fine at_begin any_result refl) accessor_kind_leads result_leaves_name (result_narrow T))
       (absorbs accessor_fine at_accessing refl (body_agrees A.expr_nodes)))) accessor_tokens _ (λ x. simp (said_word, append_assoc))
 
 -- ---- by depth

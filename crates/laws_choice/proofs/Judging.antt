@@ -1,7 +1,6 @@
 -- A test of lists of tokens that tells by how a list begins what kind of declaration it can be: a function, an accessor or variables, by what
 -- stands behind a type or a name; an alias with a result or without, by what stands behind a name.
-use Rattle.std.proofs.Common.{◌≡◌, ℕ, ◌==◌, Bool, true, false, not, ◌&&◌, ◌||◌, List, [], ◌∷◌, refl}
-use Rattle.std.specs.List.{AllByRecursion}
+use Rattle.std.proofs.Common.{◌≡◌, ℕ, ◌==◌, Bool, true, false, not, ◌||◌, List, [], ◌∷◌, refl}
 use Rattle.dart_token.specs.declared.token.Token.{Token}
 use Rattle.dart_token.specs.declared.token.TokenKind.{TokenKind}
 use Rattle.dart_token.specs.declared.token.TokenKind.TheVariants as tk
@@ -9,8 +8,7 @@ use Rattle.dart_token.specs.declared.sign.Sign.{Sign}
 use Rattle.dart_token.specs.declared.sign.Sign.TheVariants as s
 use Rattle.dart_token.specs.declared.word.Word.{Word}
 use Rattle.dart_token.specs.declared.word.Word.TheVariants as w
-use Rattle.grammar_laws.proofs.Codes.{and_both}
-use Rattle.laws_apart.proofs.Telling.{implies, implied}
+use Rattle.laws_apart.proofs.Judges.{all_of, each, implies, implied}
 
 -- ---- the tokens that matter
 
@@ -203,20 +201,12 @@ among (x ∷ xs) z = index z == index x || among xs z
 abbrev pub outside : List State → State → Bool
 outside xs z = not (among xs z)
 
-abbrev all_of : (State → Bool) → List State → Bool
-all_of g [] = true
-all_of g (z ∷ zs) = g z && all_of g zs
-
 abbrev states : List State
 states = begun ∷ lone ∷ typing ∷ typed ∷ known ∷ known_word ∷ calling ∷ accessing ∷ holding
     ∷ aliased ∷ named ∷ listing ∷ listed ∷ closed ∷ resulting ∷ bare ∷ lost ∷ []
 
 abbrev pub every : (State → Bool) → Bool
 every g = all_of g states
-
-each : (g : State → Bool) (zs : List State) → all_of g zs ≡ true → AllByRecursion (λ z. g z ≡ true) zs
-each g [] h = tt
-each g (z ∷ zs) h = let parts = and_both (g z) (all_of g zs) h in (parts.0, each g zs parts.1)
 
 pub every_gives : (g : State → Bool) → every g ≡ true → (z : State) → g z ≡ true
 every_gives g h begun = (each g states h).0

@@ -2,7 +2,6 @@ pub mod TypesGo
 pub mod MetadataGrow
 pub mod Judging
 pub mod Leading
-pub mod Refuting
 pub mod Types
 pub mod Aliases
 pub mod Callables

@@ -17,10 +17,11 @@ use Rattle.dart_syntax.specs.Leaves.{sign, sign_tokens, dot_name}
 use Rattle.dart_syntax.specs.Types.{type_list, in_angles, types, type_arguments, type_over, type_within, result_over, is_no_accessor, result_leaves_name}
 use Rattle.dart_syntax.specs.Statements.{within, nodes_over}
 use Rattle.dart_syntax.proofs.AgreeingTypes.{said_more, said_angles, types_within_agree}
+use Rattle.laws_apart.proofs.Judges.{through_both, through_none, through_more, none_leads, the_sign, the_word, an_identifier, seq_leads, either_leads}
+use Rattle.laws_apart.proofs.Judges.{opt_leads, made_leads, many_leads, eased, absorbs, dot_name_leads}
 use Rattle.laws_choice.proofs.Judging.{dynamic_word, dot, less, greater, comma, State, begun, lone, typing, typed, calling, accessing, holding}
 use Rattle.laws_choice.proofs.Judging.{aliased, named, listing, listed, closed, resulting, bare, among, outside, under, included}
-use Rattle.laws_choice.proofs.Leading.{Through, Leads, through_both, through_none, through_more, one_through, leap, leap_name, none_leads, the_sign, the_word}
-use Rattle.laws_choice.proofs.Leading.{an_identifier, seq_leads, either_leads, opt_leads, made_leads, many_leads, eased, absorbs, dot_name_leads}
+use Rattle.laws_choice.proofs.Leading.{Through, Leads, one_through, leap, leap_name, judging}
 
 -- ---- a type, by where it begins and where it leads: behind its name, behind a dot there, behind `<`, behind a comma, behind each argument
 -- and at last
@@ -107,23 +108,23 @@ module _ {p : Phrase TypeNode} (D : Leads type_fine at_typing at_typed type_toke
   parts_narrow : (name : Identifier) (member : Option DotName) (x : Option Given) → (opt dot_name).Fits member → (opt (given p)).Fits x →
       is_no_accessor (named_type name member (in_angles x)) ≡ true → (z : State) → at_begin z ≡ true → Through at_typed z
       (type_tokens (named_type name member (in_angles x)))
-  parts_narrow (i.Name place text) member x dotted fits h z from = through_both at_typed at_typed z (identifier_tokens (i.Name place text))
+  parts_narrow (i.Name place text) member x dotted fits h z from = through_both judging at_typed at_typed z (identifier_tokens (i.Name place text))
       (both_spelling (option_spelling dot_name_tokens) type_arguments_tokens (member, in_angles x))
       (one_through at_begin at_typed (record { kind = tk.Identifier; place = place; lexeme = text }) refl z from)
       (tail_leads.ends (member, in_angles x) (dotted, (x, fits, refl)))
   parts_narrow (i.Get place) None None dotted fits h z from = clash false h refl
-  parts_narrow (i.Get place) None (Some y) dotted fits h z from = through_both at_lone at_typed z (identifier_tokens (i.Get place)) (given_tokens y)
+  parts_narrow (i.Get place) None (Some y) dotted fits h z from = through_both judging at_lone at_typed z (identifier_tokens (i.Get place)) (given_tokens y)
       (one_through at_begin at_lone (word_at place w.Get) refl z from) (lone_given.ends y fits)
-  parts_narrow (i.Get place) (Some member) x dotted fits h z from = through_both at_lone at_typed z (identifier_tokens (i.Get place))
+  parts_narrow (i.Get place) (Some member) x dotted fits h z from = through_both judging at_lone at_typed z (identifier_tokens (i.Get place))
       (dot_name_tokens member ++ type_arguments_tokens (in_angles x)) (one_through at_begin at_lone (word_at place w.Get) refl z from)
-      (λ y at. through_both at_typed at_typed y (dot_name_tokens member) (type_arguments_tokens (in_angles x)) (lone_dot.ends member dotted y at)
+      (λ y at. through_both judging at_typed at_typed y (dot_name_tokens member) (type_arguments_tokens (in_angles x)) (lone_dot.ends member dotted y at)
       (arguments_lead.ends (in_angles x) (x, fits, refl)))
   parts_narrow (i.Set place) None None dotted fits h z from = clash false h refl
-  parts_narrow (i.Set place) None (Some y) dotted fits h z from = through_both at_lone at_typed z (identifier_tokens (i.Set place)) (given_tokens y)
+  parts_narrow (i.Set place) None (Some y) dotted fits h z from = through_both judging at_lone at_typed z (identifier_tokens (i.Set place)) (given_tokens y)
       (one_through at_begin at_lone (word_at place w.Set) refl z from) (lone_given.ends y fits)
-  parts_narrow (i.Set place) (Some member) x dotted fits h z from = through_both at_lone at_typed z (identifier_tokens (i.Set place))
+  parts_narrow (i.Set place) (Some member) x dotted fits h z from = through_both judging at_lone at_typed z (identifier_tokens (i.Set place))
       (dot_name_tokens member ++ type_arguments_tokens (in_angles x)) (one_through at_begin at_lone (word_at place w.Set) refl z from)
-      (λ y at. through_both at_typed at_typed y (dot_name_tokens member) (type_arguments_tokens (in_angles x)) (lone_dot.ends member dotted y at)
+      (λ y at. through_both judging at_typed at_typed y (dot_name_tokens member) (type_arguments_tokens (in_angles x)) (lone_dot.ends member dotted y at)
       (arguments_lead.ends (in_angles x) (x, fits, refl)))
 
   type_narrow : (x : TypeNode) → (type_over p).Fits x → is_no_accessor x ≡ true → (z : State) → at_begin z ≡ true → Through at_typed z (type_tokens x)
@@ -208,11 +209,12 @@ module _ {p : Phrase TypeNode} (T : TypesLead p) where
   -- one that leaves a name
   pub result_narrow : (x : Option ResultType) → (opt (result_over p)).Fits x → result_leaves_name x ≡ true → (z : State) → at_begin z ≡ true →
       Through begun_or_typed z (option_spelling result_tokens x)
-  result_narrow None fits h z from = through_none begun_or_typed z [] (included at_begin begun_or_typed refl z from) refl
+  result_narrow None fits h z from = through_none judging begun_or_typed z [] (included at_begin begun_or_typed refl z from) refl
   result_narrow (Some x) (inl (place, fits, is)) h z from = subst (λ (c : ResultType). Through begun_or_typed z (result_tokens c)) is
       (one_through at_begin begun_or_typed (word_at place w.Void) refl z from)
   result_narrow (Some x) (inr (y, fits, is)) h z from = subst (λ (c : ResultType). Through begun_or_typed z (result_tokens c)) is
-      (through_more at_typed begun_or_typed refl z (type_tokens y) (T.narrow y fits (ap (λ (c : ResultType). result_leaves_name (Some c)) is ∙ h) z from))
+      (through_more judging at_typed begun_or_typed refl z (type_tokens y)
+      (T.narrow y fits (ap (λ (c : ResultType). result_leaves_name (Some c)) is ∙ h) z from))
 
   pub aliased_result_leads : Leads result_fine at_aliased behind_result result_tokens (result_over p)
   aliased_result_leads = either_leads (made_leads (the_word result_fine at_aliased behind_result w.Void refl) result_tokens void_result (λ x. refl))

@@ -17,10 +17,11 @@ use Rattle.dart_syntax.specs.Agreement.{StmtsAgree}
 use Rattle.dart_syntax.proofs.Agreeing.{opt_agrees}
 use Rattle.dart_syntax.proofs.AgreeingStatements.{said_variables}
 use Rattle.dart_syntax.proofs.AgreeingStages.{within_agrees}
+use Rattle.laws_apart.proofs.Judges.{through_more, none_leads, the_sign, the_word, an_identifier, seq_leads, seq_narrow_leads, either_leads, perhaps_leads}
+use Rattle.laws_apart.proofs.Judges.{made_leads, many_leads, eased, absorbs}
 use Rattle.laws_unit.specs.Statements.{variables_decl}
 use Rattle.laws_choice.proofs.Judging.{State, lone, typed, known, known_word, calling, accessing, holding, among, outside}
-use Rattle.laws_choice.proofs.Leading.{Through, Leads, through_more, none_leads, the_sign, the_word, an_identifier, seq_leads, seq_if_leads, either_leads}
-use Rattle.laws_choice.proofs.Leading.{perhaps_leads, made_leads, many_leads, eased, absorbs}
+use Rattle.laws_choice.proofs.Leading.{Through, Leads, judging}
 use Rattle.laws_choice.proofs.Types.{at_begin, at_typed, TypesLead, types_lead}
 
 -- what no beginning of variables leads to
@@ -64,7 +65,7 @@ module _ {inner : StmtNodes} (A : StmtsAgree inner) (T : TypesLead inner.expr_no
   kind_narrow x (inl (inl fits)) h z from = var_leads.ends x fits z from
   kind_narrow x (inl (inr (inl fits))) h z from = final_leads.ends x fits z from
   kind_narrow x (inl (inr (inr (y, fits, is)))) h z from = subst (λ (c : VariableKind). Through behind_kind z (kind_tokens c)) is
-      (through_more at_typed behind_kind refl z (type_tokens y) (T.narrow y fits (ap kind_leaves_name is ∙ h) z from))
+      (through_more judging at_typed behind_kind refl z (type_tokens y) (T.narrow y fits (ap kind_leaves_name is ∙ h) z from))
   kind_narrow x (inr fits) h z from = const_leads.ends x fits z from
 
   value_leads : Leads variable_fine behind_variable behind_variable value_tokens (after_sign s.Assign inner.expr_nodes.expr)
@@ -76,7 +77,8 @@ module _ {inner : StmtNodes} (A : StmtsAgree inner) (T : TypesLead inner.expr_no
 
   variables_lead : Leads variable_fine at_begin at_holding variables_tokens (variables_over inner)
   unfolding variables_tokens
-  variables_lead = made_leads (seq_leads (seq_if_leads kind_leads kind_leaves_name (an_identifier variable_fine behind_kind behind_variable refl) kind_narrow)
+  variables_lead = made_leads (seq_leads (seq_narrow_leads kind_leads
+      (an_identifier variable_fine behind_kind behind_variable refl) kind_leaves_name kind_narrow)
       (seq_leads value_leads (seq_leads
       (many_leads (seq_leads (the_sign variable_fine behind_variable at_holding s.Comma refl)
       (seq_leads (an_identifier variable_fine at_holding behind_variable refl) value_leads)))
