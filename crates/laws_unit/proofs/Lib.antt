@@ -20,3 +20,7 @@ pub mod Answered
 pub mod Choosing
 pub mod Accessors
 pub mod Callables
+pub mod Ends
+pub mod Forking
+pub mod Targets
+pub mod Factories

@@ -71,7 +71,7 @@ accessor_kind_laws n P = by_first_laws (made_laws (both_laws (word_reads w.Get) 
 abbrev to_name : Identifier × Option DotName → ConstructorName
 to_name x = record { class = x.0; name = x.1 }
 
-constructor_name_laws : (nodes : StmtNodes) (class : List ℕ) → Reads (r.constructor_name class) (c.constructor_name_over nodes class) plain_names (λ x. these s.Dot) false
+pub constructor_name_laws : (nodes : StmtNodes) (class : List ℕ) → Reads (r.constructor_name class) (c.constructor_name_over nodes class) plain_names (λ x. these s.Dot) false
 unfolding r.constructor_name
 constructor_name_laws nodes class = made_laws (wider (both_any_laws (made_laws (named_reads class) (λ place. i.Name place class) identifier_tokens nowhere (λ x fits. refl) (λ x fits. within_none [])) (option_plain_laws dot_name_reads {codes = these s.Dot} (within_self (these s.Dot)) (λ x fits. within_none (these s.Dot))) (λ x fits. apart_none (these s.Dot))) (inside {ys = plain_names} refl) (λ x fits. inside {ys = these s.Dot} refl))
     to_name constructor_name_tokens (λ x. these s.Dot) (λ x fits. said x.0 x.1) (λ x fits. within_self (these s.Dot)) where
@@ -154,11 +154,15 @@ to_constant x = d.generative (Some x.0) x.1.0 x.1.1.0 x.1.1.1.0 (t.no_body x.1.1
 abbrev to_redirecting : ConstructorName × (Parameters × (Place × (Place × (Option DotName × (Arguments × Place))))) → Constructor
 to_redirecting x = d.redirecting x.0 x.1.0 x.1.1.0 x.1.1.1.0 x.1.1.1.1.0 x.1.1.1.1.1.0 x.1.1.1.1.1.1
 
-abbrev to_factory : Option Place × (Place × (ConstructorName × (Parameters × Body))) → Constructor
+abbrev pub to_factory : Option Place × (Place × (ConstructorName × (Parameters × Body))) → Constructor
 to_factory x = d.factory x.0 x.1.0 x.1.1.0 x.1.1.1.0 x.1.1.1.1
 
-abbrev to_function : Option Place × ((Option ResultType × Identifier) × (Parameters × Body)) → Function
+abbrev pub to_function : Option Place × ((Option ResultType × Identifier) × (Parameters × Body)) → Function
 to_function x = the_function x.0 x.1.0 x.1.1.0 x.1.1.1
+
+pub external_reads : Reads r.external_or_none c.external_or_none (this_word w.External) (λ x. this_word w.External) true
+unfolding r.external_or_none
+external_reads = option_plain_laws (word_reads w.External) {codes = this_word w.External} (within_self (this_word w.External)) (λ x fits. within_none (this_word w.External))
 
 module _ (n : ℕ) (D : MemberPartsReadAt n) where
   abbrev nodes_at : StmtNodes
@@ -168,8 +172,7 @@ module _ (n : ℕ) (D : MemberPartsReadAt n) where
   A = (within_agrees n).nodes
 
   pub external_laws : Reads r.external_or_none c.external_or_none (this_word w.External) (λ x. this_word w.External) true
-  unfolding r.external_or_none
-  external_laws = option_plain_laws (word_reads w.External) {codes = this_word w.External} (within_self (this_word w.External)) (λ x fits. within_none (this_word w.External))
+  external_laws = external_reads
 
   pub function_laws : Reads (r.function r.external_or_none (suc n)) (c.function_within c.external_or_none (suc n)) (word_code w.External ∷ declared_first) nowhere false
   unfolding r.function q.function_over function_tokens
@@ -177,7 +180,7 @@ module _ (n : ℕ) (D : MemberPartsReadAt n) where
       (parts_say function_tokens to_function (seq_agrees (opt_agrees (word_agrees w.External)) (seq_agrees (seq_if_agrees (opt_agrees (result_agrees A.expr_nodes.type)) identifier_agrees result_leaves_name) (seq_agrees A.expr_nodes.parameters (body_agrees A.expr_nodes)))) (λ x fits. simp (said_word, append_assoc))) (λ x fits. within_none [])
 
   module _ (class : List ℕ) where
-    initializers_laws : Reads (r.initializers (r.init n)) (c.initializers_over nodes_at (c.init_within n) class) (these s.Colon) (λ x. these s.Comma ++ D.inits.behind) false
+    pub initializers_laws : Reads (r.initializers (r.init n)) (c.initializers_over nodes_at (c.init_within n) class) (these s.Colon) (λ x. these s.Comma ++ D.inits.behind) false
     unfolding r.initializers
     initializers_laws = made_laws (both_laws (sign_reads s.Colon) (separated_plain_laws D.inits.reads (sign_reads s.Comma) {codes = D.inits.behind} (λ x fits. within_self D.inits.behind) D.inits.off_comma (λ x fits. apart_none init_first)) (λ place fits. apart_none init_first))
         to_initializers initializers_tokens (λ x. these s.Comma ++ D.inits.behind) (λ x fits. inits_said n x) (λ x fits. within_self (these s.Comma ++ D.inits.behind))
@@ -188,20 +191,20 @@ module _ (n : ℕ) (D : MemberPartsReadAt n) where
     off_end : Apart inits_codes (these s.Semicolon)
     off_end = apart_union {xs = these s.Colon} {ys = these s.Comma ++ D.inits.behind} (apart refl) (apart_union {xs = these s.Comma} {ys = D.inits.behind} (apart refl) D.inits.off_semicolon)
 
-    constant_laws : Reads (r.constant (stage n).nodes.exprs (r.init n) class) (c.constant_over nodes_at (c.init_within n) class) (this_word w.Const) nowhere false
+    pub constant_laws : Reads (r.constant (stage n).nodes.exprs (r.init n) class) (c.constant_over nodes_at (c.init_within n) class) (this_word w.Const) nowhere false
     unfolding r.constant body_tokens
     constant_laws = made_laws (both_laws (word_reads w.Const) (both_laws (constructor_name_laws nodes_at class) (both_laws D.parameters (both_any_laws (option_plain_laws initializers_laws {codes = inits_codes} (within_left (these s.Colon) (these s.Comma ++ D.inits.behind)) (λ x fits. within_right (these s.Colon) (these s.Comma ++ D.inits.behind))) (sign_reads s.Semicolon) (λ x fits. off_end))
         (λ x fits. apart_none _)) (λ x fits. apart refl)) (λ place fits. apart_none plain_names)) to_constant constructor_tokens nowhere (λ x fits. simp A.expr_nodes.parameters.spells) (λ x fits. within_none [])
 
-    redirecting_laws : Reads (r.redirecting (stage n).nodes.exprs class) (c.redirecting_over nodes_at (c.init_within n) class) plain_names nowhere false
+    pub redirecting_laws : Reads (r.redirecting (stage n).nodes.exprs class) (c.redirecting_over nodes_at (c.init_within n) class) plain_names nowhere false
     unfolding r.redirecting
     redirecting_laws = made_laws (both_laws (constructor_name_laws nodes_at class) (both_laws D.parameters (both_laws (sign_reads s.Colon) (both_laws (word_reads w.This) (both_any_laws (option_plain_laws dot_name_reads {codes = these s.Dot} (within_self (these s.Dot)) (λ x fits. within_none (these s.Dot))) (both_laws D.arguments (sign_reads s.Semicolon) (λ x fits. apart_none (these s.Semicolon))) (λ x fits. apart refl))
         (λ place fits. apart_none _)) (λ place fits. apart_none (this_word w.This))) (λ x fits. apart_none (these s.Colon))) (λ x fits. apart refl)) to_redirecting constructor_tokens nowhere (λ x fits. simp (A.expr_nodes.parameters.spells, A.expr_nodes.arguments.spells)) (λ x fits. within_none [])
 
-    constructor_name_agrees : Agrees constructor_name_tokens (c.constructor_name_over nodes_at class)
+    pub constructor_name_agrees : Agrees constructor_name_tokens (c.constructor_name_over nodes_at class)
     constructor_name_agrees = made_agrees constructor_name_tokens to_name (seq_agrees (made_agrees identifier_tokens (λ place. i.Name place class) (named_agrees class) (λ x fits. refl)) (opt_agrees dot_name_agrees)) (λ x fits. refl)
 
-    factory_laws : Reads (r.factory (stage n).nodes.exprs class) (factory_phrase n class) (word_code w.External ∷ word_code w.Factory ∷ []) nowhere false
+    pub factory_laws : Reads (r.factory (stage n).nodes.exprs class) (factory_phrase n class) (word_code w.External ∷ word_code w.Factory ∷ []) nowhere false
     unfolding r.factory
     factory_laws = made_laws (both_any_laws external_laws (both_laws (word_reads w.Factory) (both_laws (constructor_name_laws nodes_at class) (both_laws D.parameters D.body (λ x fits. apart_none _)) (λ x fits. apart refl)) (λ place fits. apart_none plain_names)) (λ x fits. apart refl)) to_factory constructor_tokens nowhere
         (parts_say constructor_tokens to_factory (seq_agrees (opt_agrees (word_agrees w.External)) (seq_agrees (word_agrees w.Factory) (seq_agrees constructor_name_agrees (seq_agrees A.expr_nodes.parameters (body_agrees A.expr_nodes))))) (λ x fits. simp said_word)) (λ x fits. within_none [])

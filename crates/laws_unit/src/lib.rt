@@ -2,6 +2,7 @@
 // nothing.
 #![tactic(auto)]
 
+ghost use Rattle.laws_unit.specs.Members.{FactoriesRead};
 ghost use Rattle.laws_unit.specs.Statements.{DirectivesRead, HeadsRead, AliasesRead, ClassesRead, InitsRead, MemberKindsRead, CallablesRead, DeclKindsRead, UnitsRead, UnitsAnswered};
 
 /// At every depth the readers of directives, behind their metadata, find those of the grammar and nothing else, where that of the strings
@@ -46,6 +47,12 @@ pub fn member_kinds_read()
 /// no list of tokens leaves a choice between the two (ECMA-408, 9 Functions, 10.2 Getters, 10.3 Setters).
 pub fn callables_read()
     ensures { CallablesRead }
+{}
+
+/// At every depth the readers of redirecting factories, and of factories of both kinds, of which both are tried, find those of the grammar and
+/// nothing else, where those of types, and of the parameters, bodies and names with their results inside do (ECMA-408, 10.6.2 Factories).
+pub fn factories_read()
+    ensures { FactoriesRead }
 {}
 
 /// At every depth the reader of declarations, behind their metadata, finds those of the grammar and nothing else, where those of classes,
