@@ -24,3 +24,6 @@ pub mod Ends
 pub mod Forking
 pub mod Targets
 pub mod Factories
+pub mod ConstructorFault
+pub mod Generative
+pub mod Generatives

@@ -2,7 +2,7 @@
 // nothing.
 #![tactic(auto)]
 
-ghost use Rattle.laws_unit.specs.Members.{FactoriesRead};
+ghost use Rattle.laws_unit.specs.Members.{FactoriesRead, GenerativesFound};
 ghost use Rattle.laws_unit.specs.Statements.{DirectivesRead, HeadsRead, AliasesRead, ClassesRead, InitsRead, MemberKindsRead, CallablesRead, DeclKindsRead, UnitsRead, UnitsAnswered};
 
 /// At every depth the readers of directives, behind their metadata, find those of the grammar and nothing else, where that of the strings
@@ -53,6 +53,13 @@ pub fn callables_read()
 /// nothing else, where those of types, and of the parameters, bodies and names with their results inside do (ECMA-408, 10.6.2 Factories).
 pub fn factories_read()
     ensures { FactoriesRead }
+{}
+
+/// At every depth what the reader of generative constructors reads is one of the grammar, and each of those is read as itself unless it goes on,
+/// where the readers of initialisers, parameters and blocks inside find theirs, and where initialisers close the braces that they open
+/// (ECMA-408, 10.6.1 Generative Constructors). Where a list is none, it may stop earlier than it should.
+pub fn generatives_found()
+    ensures { GenerativesFound }
 {}
 
 /// At every depth the reader of declarations, behind their metadata, finds those of the grammar and nothing else, where those of classes,
