@@ -34,7 +34,7 @@ module _ {A : Type 0} {read : Reader Token A} {spelling : A → List Token} {Fit
   stuck_here ts rest off ([], e, f, ends) = sym e
   stuck_here ts rest off (t ∷ before, e, f, ends) = clash (has first (class_of t)) (P.firsts t before f) (ap (starts class_of first) (sym e) ∙ off)
 
-  refuses_by : (ts : List Token) (o : Outcome Token A) → read ts ≡ o → starts class_of first ts ≡ false → o ≡ Err ts
+  pub refuses_by : (ts : List Token) (o : Outcome Token A) → read ts ≡ o → starts class_of first ts ≡ false → o ≡ Err ts
   refuses_by ts (Ok (a, rest)) e off =
       let l : Fits a × (ts ≡ spelling a ++ rest) = P.sound ts a rest e in
       clash (starts class_of first (spelling a ++ rest)) (begins P a rest l.0) (ap (starts class_of first) (sym l.1) ∙ off)
@@ -58,7 +58,7 @@ module _ {A : Type 0} {p q : Reader Token A} {spelling : A → List Token} {Fits
   second_only : (ts : List Token) → starts class_of first_p ts ≡ false → q ts ≡ tried p q ts
   second_only ts off = sym (ap (λ (o : Outcome Token A). farther o (q ts)) (refuses_by P ts (p ts) refl off) ∙ kept Q ts (q ts) refl)
 
-  led : (leads : List ℕ) → Apart leads first_p → (ts : List Token) (b : Bool) → starts class_of leads ts ≡ b → (if b then q ts else tried p q ts) ≡ tried p q ts
+  pub led : (leads : List ℕ) → Apart leads first_p → (ts : List Token) (b : Bool) → starts class_of leads ts ≡ b → (if b then q ts else tried p q ts) ≡ tried p q ts
   led leads off ts false h = refl
   led leads off [] true h = absurd cc
   led leads off (t ∷ ts) true h = second_only (t ∷ ts) (not_true (has first_p (class_of t)) (λ on. off.never_both (class_of t) h on))

@@ -27,3 +27,7 @@ pub mod Factories
 pub mod ConstructorFault
 pub mod Generative
 pub mod Generatives
+pub mod Choices
+pub mod FieldsAndFunctions
+pub mod OperatorMembers
+pub mod OtherMembers

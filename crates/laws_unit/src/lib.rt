@@ -2,7 +2,7 @@
 // nothing.
 #![tactic(auto)]
 
-ghost use Rattle.laws_unit.specs.Members.{FactoriesRead, GenerativesFound};
+ghost use Rattle.laws_unit.specs.Members.{FactoriesRead, GenerativesFound, OtherMembersRead};
 ghost use Rattle.laws_unit.specs.Statements.{DirectivesRead, HeadsRead, AliasesRead, ClassesRead, InitsRead, MemberKindsRead, CallablesRead, DeclKindsRead, UnitsRead, UnitsAnswered};
 
 /// At every depth the readers of directives, behind their metadata, find those of the grammar and nothing else, where that of the strings
@@ -60,6 +60,13 @@ pub fn factories_read()
 /// (ECMA-408, 10.6.1 Generative Constructors). Where a list is none, it may stop earlier than it should.
 pub fn generatives_found()
     ensures { GenerativesFound }
+{}
+
+/// At every depth the reader of members that are no constructors finds functions, accessors, variables and operators, with `static`,
+/// `external` or neither, and nothing else, where those of what stands inside do, where types go on behind names as they should, and where
+/// no list of tokens leaves a choice (ECMA-408, 8 Variables, 10 Classes, 10.1.1 Operators).
+pub fn other_members_read()
+    ensures { OtherMembersRead }
 {}
 
 /// At every depth the reader of declarations, behind their metadata, finds those of the grammar and nothing else, where those of classes,
