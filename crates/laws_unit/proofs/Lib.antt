@@ -31,3 +31,4 @@ pub mod Choices
 pub mod FieldsAndFunctions
 pub mod OperatorMembers
 pub mod OtherMembers
+pub mod WholeMembers

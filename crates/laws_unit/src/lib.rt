@@ -2,7 +2,7 @@
 // nothing.
 #![tactic(auto)]
 
-ghost use Rattle.laws_unit.specs.Members.{FactoriesRead, GenerativesFound, OtherMembersRead};
+ghost use Rattle.laws_unit.specs.Members.{FactoriesRead, GenerativesFound, MembersRead, OtherMembersRead};
 ghost use Rattle.laws_unit.specs.Statements.{DirectivesRead, HeadsRead, AliasesRead, ClassesRead, InitsRead, MemberKindsRead, CallablesRead, DeclKindsRead, UnitsRead, UnitsAnswered};
 
 /// At every depth the readers of directives, behind their metadata, find those of the grammar and nothing else, where that of the strings
@@ -67,6 +67,13 @@ pub fn generatives_found()
 /// no list of tokens leaves a choice (ECMA-408, 8 Variables, 10 Classes, 10.1.1 Operators).
 pub fn other_members_read()
     ensures { OtherMembersRead }
+{}
+
+/// At every depth the reader of members with their metadata finds those of the grammar and nothing else, where those of metadata, of generative
+/// constructors, of what the other constructors are made of and of the other members do, and where no list of tokens leaves a choice but
+/// between a constructor and another member, neither of which goes on (ECMA-408, 10 Classes, 10.6 Constructors).
+pub fn members_read()
+    ensures { MembersRead }
 {}
 
 /// At every depth the reader of declarations, behind their metadata, finds those of the grammar and nothing else, where those of classes,
