@@ -32,3 +32,6 @@ pub mod FieldsAndFunctions
 pub mod OperatorMembers
 pub mod OtherMembers
 pub mod WholeMembers
+pub mod Braces
+pub mod Stopping
+pub mod Mending

@@ -2,6 +2,7 @@
 // nothing.
 #![tactic(auto)]
 
+ghost use Rattle.laws_unit.specs.Mending.{MendedRead};
 ghost use Rattle.laws_unit.specs.Members.{FactoriesRead, GenerativesFound, MembersRead, OtherMembersRead};
 ghost use Rattle.laws_unit.specs.Statements.{DirectivesRead, HeadsRead, AliasesRead, ClassesRead, InitsRead, MemberKindsRead, CallablesRead, DeclKindsRead, UnitsRead, UnitsAnswered};
 
@@ -74,6 +75,13 @@ pub fn other_members_read()
 /// between a constructor and another member, neither of which goes on (ECMA-408, 10 Classes, 10.6 Constructors).
 pub fn members_read()
     ensures { MembersRead }
+{}
+
+/// At every depth a reader of generative constructors finds those of the grammar and nothing else, if it takes for a constructor's own block, where
+/// the first try stops, the last brace outside all brackets before that place, and where the readers of initialisers, parameters and
+/// blocks inside find theirs (ECMA-408, 10.6.1 Generative Constructors). It is not the reader in use.
+pub fn mended_read()
+    ensures { MendedRead }
 {}
 
 /// At every depth the reader of declarations, behind their metadata, finds those of the grammar and nothing else, where those of classes,
