@@ -38,7 +38,7 @@ use Rattle.syntax_readers.specs.Statements.{stage}
 use Rattle.syntax_readers.specs.Declarations as r
 use Rattle.syntax_readers.specs.Declarations.{behind_init, before_body, is_body}
 use Rattle.laws_unit.specs.Statements.{MemberPartsReadAt}
-use Rattle.laws_unit.specs.Members.{BlockReadAt, InitsCloseAt}
+use Rattle.laws_unit.specs.Members.{BlockReadAt, InitsCloseAt, ScannedAt}
 use Rattle.laws_unit.proofs.Ends.{off_by}
 use Rattle.laws_unit.proofs.Members.{initializers_laws}
 
@@ -197,22 +197,6 @@ module _ (n : ℕ) (D : MemberPartsReadAt n) (B : BlockReadAt n) (C : InitsClose
     pub behind_block : behind_brackets (braced ++ rest) ≡ rest
     behind_block = ap (λ (m : List Token). behind_brackets (m ++ rest)) (A.expr_nodes.block.spells b) ∙ C.block_ends b rest fb
 
-    stands_at : length (Inits.spelling x) ≡ before_body 0 ts
-    stands_at =
-        let all : length (Inits.spelling x) + 0 ≡ length (Inits.spelling x) = omega arith in
-        sym (C.scanned x (braced ++ rest) fx brace ∙ ap (λ (k : ℕ). length (Inits.spelling x) + k) (body_here (braced ++ rest) brace (ap (starts class_of behind_init) behind_block ∙ stop)) ∙ all)
-
-    inits_read : up_to (before_body 0 ts) read_inits ts ≡ Ok (x, braced ++ rest)
-    inits_read =
-        ap (λ (m : List Token). ended_at (before_body 0 ts) ts (read_inits m)) (take_at (Inits.spelling x) (braced ++ rest) (before_body 0 ts) stands_at ∙ sym (append-nil (Inits.spelling x)))
-        ∙ ap (ended_at (before_body 0 ts) ts) (IL.complete x [] fx refl)
-        ∙ ap (gave x) (drop_at (Inits.spelling x) (braced ++ rest) (before_body 0 ts) stands_at)
-
-    own_reads : own ts ≡ Ok (owned x b, rest)
-    own_reads =
-        ap (λ (z : Outcome Token Initializers). and_then (and_then z (λ x m. Ok (Some x, m))) (λ a m. and_then (and_then (here.block m) (λ b m. Ok (t.block_body b, m))) (λ b m. Ok ((a, b), m)))) inits_read
-        ∙ ap (λ (z : Outcome Token Block). and_then (and_then z (λ b m. Ok (t.block_body b, m))) (λ y m. Ok ((Some x, y), m))) (B.complete b rest fb (stops_nowhere class_of rest))
-
     -- nothing goes on behind the block
     no_further : (u : Token) (z : List Token) → rest ≡ u ∷ z → has behind_init (class_of u) ≡ true → ⊥
     no_further u z is h = clash (starts class_of behind_init rest) (ap (starts class_of behind_init) is ∙ h) stop
@@ -305,13 +289,32 @@ module _ (n : ℕ) (D : MemberPartsReadAt n) (B : BlockReadAt n) (C : InitsClose
           | present y some on h ↦ found_here a.0 a.1 v.0 y some v.2 (stands y v.0 h)
         ]
 
-    first_try : (o : Outcome Token Rest) → greedy ts ≡ o → deeper o (own ts) ≡ Ok (owned x b, rest)
-    first_try (Ok a) e = greedy_finds a e
-    first_try (Err d) e = ap (λ (o : Outcome Token Rest). deeper (Err d) o) own_reads
-        ∙ ap (λ (c : Bool). if c then Err d else Ok (owned x b, rest)) (le-ltb (length d) (length rest) (far_enough d e))
+    -- ---- where the scan finds the block
 
-    own_complete : sought greedy own ts ≡ Ok (owned x b, rest)
-    own_complete = first_try (greedy ts) refl
+    module _ (scanned : ScannedAt n) where
+      stands_at : length (Inits.spelling x) ≡ before_body 0 ts
+      stands_at =
+          let all : length (Inits.spelling x) + 0 ≡ length (Inits.spelling x) = omega arith in
+          sym (scanned x (braced ++ rest) fx brace ∙ ap (λ (k : ℕ). length (Inits.spelling x) + k) (body_here (braced ++ rest) brace (ap (starts class_of behind_init) behind_block ∙ stop)) ∙ all)
+
+      inits_read : up_to (before_body 0 ts) read_inits ts ≡ Ok (x, braced ++ rest)
+      inits_read =
+          ap (λ (m : List Token). ended_at (before_body 0 ts) ts (read_inits m)) (take_at (Inits.spelling x) (braced ++ rest) (before_body 0 ts) stands_at ∙ sym (append-nil (Inits.spelling x)))
+          ∙ ap (ended_at (before_body 0 ts) ts) (IL.complete x [] fx refl)
+          ∙ ap (gave x) (drop_at (Inits.spelling x) (braced ++ rest) (before_body 0 ts) stands_at)
+
+      own_reads : own ts ≡ Ok (owned x b, rest)
+      own_reads =
+          ap (λ (z : Outcome Token Initializers). and_then (and_then z (λ x m. Ok (Some x, m))) (λ a m. and_then (and_then (here.block m) (λ b m. Ok (t.block_body b, m))) (λ b m. Ok ((a, b), m)))) inits_read
+          ∙ ap (λ (z : Outcome Token Block). and_then (and_then z (λ b m. Ok (t.block_body b, m))) (λ y m. Ok ((Some x, y), m))) (B.complete b rest fb (stops_nowhere class_of rest))
+
+      first_try : (o : Outcome Token Rest) → greedy ts ≡ o → deeper o (own ts) ≡ Ok (owned x b, rest)
+      first_try (Ok a) e = greedy_finds a e
+      first_try (Err d) e = ap (λ (o : Outcome Token Rest). deeper (Err d) o) own_reads
+          ∙ ap (λ (c : Bool). if c then Err d else Ok (owned x b, rest)) (le-ltb (length d) (length rest) (far_enough d e))
+
+      own_complete : sought greedy own ts ≡ Ok (owned x b, rest)
+      own_complete = first_try (greedy ts) refl
 
   -- ---- each tree
 
@@ -322,15 +325,16 @@ module _ (n : ℕ) (D : MemberPartsReadAt n) (B : BlockReadAt n) (C : InitsClose
   pub off_semicolon : Apart (these s.Comma ++ D.inits.behind) (these s.Semicolon)
   off_semicolon = apart_union {xs = these s.Comma} {ys = D.inits.behind} (apart refl) D.inits.off_semicolon
 
-  complete_by : (o : Option Initializers) (y : Body) (rest : List Token) → OptionFit Inits.Fits o → Ended.Fits y → starts class_of behind_init rest ≡ false → sought greedy own (rest_tokens (o, y) ++ rest) ≡ Ok ((o, y), rest)
-  complete_by None y rest fo fy stop = by_greedy (rest_tokens (None, y) ++ rest) ((None, y), rest)
-      (greedy_reads None y rest tt fy (off_by (these s.Colon) end_first (apart {xs = these s.Colon} {ys = end_first} refl).never_both (Ended.spelling y ++ rest) (begins NL y rest fy)))
-  complete_by (Some x) y rest fo (inl (b, fb, is)) stop = subst (λ (z : Body). sought greedy own (rest_tokens (Some x, z) ++ rest) ≡ Ok ((Some x, z), rest)) is (ap (sought greedy own) (sym (owned_tokens x b rest)) ∙ own_complete x b rest fo fb stop)
-  complete_by (Some x) y rest fo (inr fy) stop = by_greedy (rest_tokens (Some x, y) ++ rest) ((Some x, y), rest)
-      (greedy_reads (Some x) y rest fo (inr fy) (off_by (these s.Comma ++ D.inits.behind) (these s.Semicolon) off_semicolon.never_both (Ended.spelling y ++ rest) (begins ended_by_sign y rest fy)))
+  module _ (scanned : ScannedAt n) where
+    complete_by : (o : Option Initializers) (y : Body) (rest : List Token) → OptionFit Inits.Fits o → Ended.Fits y → starts class_of behind_init rest ≡ false → sought greedy own (rest_tokens (o, y) ++ rest) ≡ Ok ((o, y), rest)
+    complete_by None y rest fo fy stop = by_greedy (rest_tokens (None, y) ++ rest) ((None, y), rest)
+        (greedy_reads None y rest tt fy (off_by (these s.Colon) end_first (apart {xs = these s.Colon} {ys = end_first} refl).never_both (Ended.spelling y ++ rest) (begins NL y rest fy)))
+    complete_by (Some x) y rest fo (inl (b, fb, is)) stop = subst (λ (z : Body). sought greedy own (rest_tokens (Some x, z) ++ rest) ≡ Ok ((Some x, z), rest)) is (ap (sought greedy own) (sym (owned_tokens x b rest)) ∙ own_complete x b rest fo fb stop scanned)
+    complete_by (Some x) y rest fo (inr fy) stop = by_greedy (rest_tokens (Some x, y) ++ rest) ((Some x, y), rest)
+        (greedy_reads (Some x) y rest fo (inr fy) (off_by (these s.Comma ++ D.inits.behind) (these s.Semicolon) off_semicolon.never_both (Ended.spelling y ++ rest) (begins ended_by_sign y rest fy)))
 
-  rest_complete : (a : Rest) (rest : List Token) → RestFits a → starts class_of behind_init rest ≡ false → sought greedy own (rest_tokens a ++ rest) ≡ Ok (a, rest)
-  rest_complete a rest fits stop = complete_by a.0 a.1 rest fits.0 fits.1 stop
+    rest_complete : (a : Rest) (rest : List Token) → RestFits a → starts class_of behind_init rest ≡ false → sought greedy own (rest_tokens a ++ rest) ≡ Ok (a, rest)
+    rest_complete a rest fits stop = complete_by a.0 a.1 rest fits.0 fits.1 stop
 
   -- as the readers are named
   abbrev pub rest_reader : Reader Token Rest
@@ -343,5 +347,5 @@ module _ (n : ℕ) (D : MemberPartsReadAt n) (B : BlockReadAt n) (C : InitsClose
   pub found_sound : (all : List Token) (a : Rest) (rest : List Token) → rest_reader all ≡ Ok (a, rest) → RestFits a × (all ≡ rest_tokens a ++ rest)
   found_sound all a rest e = rest_sound all a rest (sym (reads_rest all) ∙ e)
 
-  pub found_complete : (a : Rest) (rest : List Token) → RestFits a → starts class_of behind_init rest ≡ false → rest_reader (rest_tokens a ++ rest) ≡ Ok (a, rest)
-  found_complete a rest fits stop = reads_rest (rest_tokens a ++ rest) ∙ rest_complete a rest fits stop
+  pub found_complete : ScannedAt n → (a : Rest) (rest : List Token) → RestFits a → starts class_of behind_init rest ≡ false → rest_reader (rest_tokens a ++ rest) ≡ Ok (a, rest)
+  found_complete scanned a rest fits stop = reads_rest (rest_tokens a ++ rest) ∙ rest_complete scanned a rest fits stop

@@ -29,7 +29,7 @@ use Rattle.syntax_readers.specs.Statements.{stage}
 use Rattle.syntax_readers.specs.Declarations as r
 use Rattle.syntax_readers.specs.Declarations.{behind_init}
 use Rattle.laws_unit.specs.Statements.{MemberPartsReadAt}
-use Rattle.laws_unit.specs.Members.{BlockReadAt, InitsCloseAt, GenerativesFoundAt}
+use Rattle.laws_unit.specs.Members.{BlockReadAt, InitsCloseAt, ScannedAt, GenerativesFoundAt}
 use Rattle.laws_unit.proofs.Ends.{off_by}
 use Rattle.laws_unit.proofs.Members.{constructor_name_laws, constructor_name_agrees, initializers_laws}
 use Rattle.laws_unit.proofs.Generative.{Ended, Rest, RestFits, rest_tokens, rest_reader, found_sound, found_complete}
@@ -168,25 +168,25 @@ module _ (n : ℕ) (D : MemberPartsReadAt n) (B : BlockReadAt n) (C : InitsClose
   no_dot : (x : Parts) (m : List Token) → Given.Fits x.1.0 → starts class_of (these s.Dot) (Given.spelling x.1.0 ++ m) ≡ false
   no_dot x m fits = off_by (these s.Dot) (these s.LeftParenthesis) (apart {xs = these s.Dot} {ys = these s.LeftParenthesis} refl).never_both (Given.spelling x.1.0 ++ m) (begins D.parameters x.1.0 m fits)
 
-  parts_read : (x : Parts) (rest : List Token) → PartsFit x → starts class_of behind_init rest ≡ false → read_whole (parts_tokens x ++ rest) ≡ Ok (to_generative x, rest)
-  parts_read x rest fits stop =
+  parts_read : ScannedAt n → (x : Parts) (rest : List Token) → PartsFit x → starts class_of behind_init rest ≡ false → read_whole (parts_tokens x ++ rest) ≡ Ok (to_generative x, rest)
+  parts_read scanned x rest fits stop =
       ap read_whole (grouped x rest)
       ∙ ap (λ (z : Outcome Token ConstructorName). and_then (and_then z (λ a m. and_then (both here.parameters read_rest m) (λ b m. Ok ((a, b), m)))) (λ y m. Ok (to_generative y, m)))
       ((constructor_name_laws nodes class).complete x.0 (Given.spelling x.1.0 ++ (rest_tokens n D B C class x.1.1 ++ rest)) fits.0 (no_dot x (rest_tokens n D B C class x.1.1 ++ rest) fits.1.0))
       ∙ ap (λ (z : Outcome Token Parameters). and_then (and_then (and_then z (λ b m. and_then (read_rest m) (λ y m. Ok ((b, y), m)))) (λ b m. Ok ((x.0, b), m))) (λ y m. Ok (to_generative y, m)))
       (D.parameters.complete x.1.0 (rest_tokens n D B C class x.1.1 ++ rest) fits.1.0 (stops_nowhere class_of (rest_tokens n D B C class x.1.1 ++ rest)))
       ∙ ap (λ (z : Outcome Token Behind). and_then (and_then (and_then z (λ y m. Ok ((x.1.0, y), m))) (λ b m. Ok ((x.0, b), m))) (λ y m. Ok (to_generative y, m)))
-      (found_complete n D B C class x.1.1 rest fits.1.1 stop)
+      (found_complete n D B C class scanned x.1.1 rest fits.1.1 stop)
 
-  whole_complete : (a : Constructor) (rest : List Token) → Whole.Fits a → starts class_of behind_init rest ≡ false → read_whole (constructor_tokens a ++ rest) ≡ Ok (a, rest)
-  whole_complete a rest (x, fits, is) stop = subst (λ (y : Constructor). read_whole (constructor_tokens y ++ rest) ≡ Ok (y, rest)) is
-      (ap (λ (m : List Token). read_whole (m ++ rest)) (said x fits) ∙ parts_read x rest fits stop)
+  whole_complete : ScannedAt n → (a : Constructor) (rest : List Token) → Whole.Fits a → starts class_of behind_init rest ≡ false → read_whole (constructor_tokens a ++ rest) ≡ Ok (a, rest)
+  whole_complete scanned a rest (x, fits, is) stop = subst (λ (y : Constructor). read_whole (constructor_tokens y ++ rest) ≡ Ok (y, rest)) is
+      (ap (λ (m : List Token). read_whole (m ++ rest)) (said x fits) ∙ parts_read scanned x rest fits stop)
 
   pub generative_sound : (ts : List Token) (a : Constructor) (rest : List Token) → r.generative here (r.init n) class ts ≡ Ok (a, rest) → Whole.Fits a × (ts ≡ constructor_tokens a ++ rest)
   generative_sound ts a rest e = whole_sound ts a rest (sym (reads_whole ts) ∙ e)
 
-  pub generative_complete : (a : Constructor) (rest : List Token) → Whole.Fits a → starts class_of behind_init rest ≡ false → r.generative here (r.init n) class (constructor_tokens a ++ rest) ≡ Ok (a, rest)
-  generative_complete a rest fits stop = reads_whole (constructor_tokens a ++ rest) ∙ whole_complete a rest fits stop
+  pub generative_complete : ScannedAt n → (a : Constructor) (rest : List Token) → Whole.Fits a → starts class_of behind_init rest ≡ false → r.generative here (r.init n) class (constructor_tokens a ++ rest) ≡ Ok (a, rest)
+  generative_complete scanned a rest fits stop = reads_whole (constructor_tokens a ++ rest) ∙ whole_complete scanned a rest fits stop
 
-pub generatives_at : (n : ℕ) → MemberPartsReadAt n → BlockReadAt n → InitsCloseAt n → GenerativesFoundAt n
-generatives_at n D B C = record { sound = λ class. generative_sound n D B C class; complete = λ class. generative_complete n D B C class }
+pub generatives_at : (n : ℕ) → MemberPartsReadAt n → BlockReadAt n → InitsCloseAt n → ScannedAt n → GenerativesFoundAt n
+generatives_at n D B C scanned = record { sound = λ class. generative_sound n D B C class; complete = λ class. generative_complete n D B C class scanned }

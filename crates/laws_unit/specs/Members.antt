@@ -105,14 +105,16 @@ inits_at n = c.initializers_over (within n).nodes (c.init_within n) []
 
 -- what is asked of the grammar
 pub record InitsCloseAt (n : ℕ) : Type 0 where
-  -- before a brace the scan finds no body in initialisers: behind each block outside brackets one of `behind_init` stands
-  pub scanned : (x : Initializers) (ts : List Token) → (inits_at n).Fits x → starts class_of (these s.LeftBrace) ts ≡ true → before_body 0 (initializers_tokens x ++ ts) ≡ length (initializers_tokens x) + before_body 0 ts
-  -- so does one where initialisers go on with a block that is none of theirs
+  -- where initialisers go on with a block that is none of theirs, one of `behind_init` stands behind it
   pub goes_on : (x : Initializers) (b : Block) (t : Token) (ts : List Token) → (inits_at n).Fits x → (within n).nodes.expr_nodes.block.Fits b → (inits_at n).front (initializers_tokens x ++ (block_tokens b ++ t ∷ ts)) → has behind_init (class_of t) ≡ true
   -- initialisers that go on with a brace close it
   pub closes : (x y : Initializers) (m rest : List Token) → (inits_at n).Fits x → (inits_at n).Fits y → initializers_tokens y ≡ initializers_tokens x ++ m → starts class_of (these s.LeftBrace) m ≡ true → behind_brackets (m ++ rest) ≡ behind_brackets m ++ rest
   -- and a block its own
   pub block_ends : (b : Block) (rest : List Token) → (within n).nodes.expr_nodes.block.Fits b → behind_brackets (block_tokens b ++ rest) ≡ rest
+
+-- before a brace the scan finds no body in initialisers: behind each block outside brackets one of `behind_init` stands
+abbrev pub ScannedAt : ℕ → Type 0
+ScannedAt n = (x : Initializers) (ts : List Token) → (inits_at n).Fits x → starts class_of (these s.LeftBrace) ts ≡ true → before_body 0 (initializers_tokens x ++ ts) ≡ length (initializers_tokens x) + before_body 0 ts
 
 -- all of `Laws` of a reader that is said of trees: a fault may stand too early
 pub record GenerativesFoundAt (n : ℕ) : Type 0 where
@@ -122,7 +124,7 @@ pub record GenerativesFoundAt (n : ℕ) : Type 0 where
   pub complete : (class : List ℕ) (a : Constructor) (rest : List Token) → (c.generative_over (within n).nodes (c.init_within n) class).Fits a → starts class_of behind_init rest ≡ false → r.generative (stage n).nodes.exprs (r.init n) class (constructor_tokens a ++ rest) ≡ Ok (a, rest)
 
 abbrev pub GenerativesFound : Type 0
-GenerativesFound = (n : ℕ) → MemberPartsReadAt n → BlockReadAt n → InitsCloseAt n → GenerativesFoundAt n
+GenerativesFound = (n : ℕ) → MemberPartsReadAt n → BlockReadAt n → InitsCloseAt n → ScannedAt n → GenerativesFoundAt n
 
 -- ---- whole members (10 Classes), where a generative constructor goes on behind its block as its initialisers do
 
