@@ -1,0 +1,5 @@
+pub mod Nesting
+pub mod Walked
+pub mod Blocks
+pub mod Lasts
+pub mod Found
