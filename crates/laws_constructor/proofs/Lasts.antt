@@ -13,8 +13,7 @@ use Rattle.dart_syntax.specs.Statements.{within}
 use Rattle.token_codes.specs.Codes.{class_of, these}
 use Rattle.syntax_readers.specs.Combinators.{opening, behind_brackets}
 use Rattle.laws_unit.specs.Members.{inits_at}
-use Rattle.laws_unit.specs.Mending.{or_here, last_brace}
-use Rattle.laws_constructor.specs.Statements.{BracesCloseAt}
+use Rattle.laws_unit.specs.Mending.{or_here, last_brace, LastBraceAt}
 use Rattle.laws_constructor.proofs.Nesting.{opened, even_closes, even_rest, even_steps, last_steps, none_inside, none_behind}
 use Rattle.laws_constructor.proofs.Blocks.{inits_encloses, block_begins, block_closes, block_opens, brace_first}
 
@@ -45,12 +44,8 @@ module _ (n : ℕ) where
   behind_at : (x : Initializers) (b : Block) (rest : List Token) → (inits_at n).Fits x → (within n).nodes.expr_nodes.block.Fits b → starts class_of (these s.LeftBrace) rest ≡ false → last_brace 0 (length (initializers_tokens x) + suc (length (block_tokens b))) (initializers_tokens x ++ (block_tokens b ++ rest)) ≡ Some (length (initializers_tokens x))
   behind_at x b rest fits own off = after_inits x (block_tokens b ++ rest) (suc (length (block_tokens b))) fits (behind_whole (block_tokens b) rest (brace_first b) (block_closes n b rest own) off)
 
-  closes_at : (x y : Initializers) (m rest : List Token) → (inits_at n).Fits x → (inits_at n).Fits y → initializers_tokens y ≡ initializers_tokens x ++ m → starts class_of (these s.LeftBrace) m ≡ true → behind_brackets (m ++ rest) ≡ behind_brackets m ++ rest
+  pub closes_at : (x y : Initializers) (m rest : List Token) → (inits_at n).Fits x → (inits_at n).Fits y → initializers_tokens y ≡ initializers_tokens x ++ m → starts class_of (these s.LeftBrace) m ≡ true → behind_brackets (m ++ rest) ≡ behind_brackets m ++ rest
   closes_at x y m rest fits whole e h = even_closes m rest (even_rest (initializers_tokens x) m (initializers_tokens y) ((inits_encloses n).within x fits) ((inits_encloses n).within y whole) e) h
 
-pub braces_close_at : (n : ℕ) → BracesCloseAt n
-braces_close_at n = record {
-  closes = closes_at n;
-  block_ends = block_closes n;
-  last = record { inside = inside_at n; behind = behind_at n; begins = block_begins n };
-}
+pub last_brace_at : (n : ℕ) → LastBraceAt n
+last_brace_at n = record { inside = inside_at n; behind = behind_at n; begins = block_begins n }

@@ -2,4 +2,8 @@ pub mod Nesting
 pub mod Walked
 pub mod Blocks
 pub mod Lasts
+pub mod Calm
+pub mod Operands
+pub mod Depths
+pub mod Scanned
 pub mod Found

@@ -1,4 +1,4 @@
-use Rattle.laws_constructor.proofs.Lasts.{braces_close_at}
+use Rattle.laws_constructor.proofs.Found.{braces_close_at}
 use Rattle.laws_constructor.proofs.braces_close.Goals as goal
 
 pub returns : goal.returns
